@@ -2,10 +2,10 @@
 from __future__ import annotations
 
 import re
-from dataclasses import dataclass, field
+from dataclasses import dataclass, field, replace
 from decimal import Decimal
 
-from .claims import CONDITIONS, END, Token, WordReader, Wrong, check_spelling
+from .claims import CONDITIONS, END, Token, WordReader, check_spelling
 
 # The registers of the stack, and data registers such as R05.
 STACK = ("X", "Y", "Z", "T", "L")
@@ -23,19 +23,34 @@ ERRORS = ("OUT OF RANGE", "DATA ERROR")
 RELATIONS = ("<=", ">=", "<>", "=", "<", ">")
 OPPOSITE = {"<": ">=", ">=": "<", "<=": ">", ">": "<=", "=": "<>", "<>": "="}
 REGISTER = "a register (X Y Z T L, or R00 to R15)"
-NO_LOOP = {"invariant": "invariant", "decreases": "decreases"}
+LOOP = ("invariant", "decreases")
 
 
 @dataclass(frozen=True)
 class Term:
-    """A value: `old` and the name of a register before the program; `number` and the text of a number; `zero`; or an operation with its
-    terms, named as the calculator's function."""
+    """A value: `old` and the name of a register before the program; `now` and that of a register at the place of the claim; `number` and
+    the text of a number; `zero`; an operation with its terms, named as the calculator's function; `left`, the content of a register that a
+    subroutine or an earlier round has left, with the name of a variable, and its value if that is known; or `whole`, a whole number with
+    the name of a variable. `origin` says in words what an unknown content is."""
     op: str
     args: tuple[Term, ...] = ()
     name: str = ""
+    origin: str = ""
+
+    def plain(self) -> Term:
+        """Returns the value, without the registers in which subroutines and rounds have left its parts."""
+        if self.op == "left" and self.args:
+            return self.args[0].plain()
+        return replace(self, args=tuple(one.plain() for one in self.args)) if self.args else self
 
     def text(self) -> str:
         """Returns the term as a claim has it."""
+        if self.op == "left":
+            return self.args[0].text() if self.args else self.origin
+        if self.op == "whole":
+            return self.origin
+        if self.op == "now":
+            return self.name
         if self.op == "old":
             return f"old {self.name}"
         if self.op in ("number", "zero"):
@@ -73,6 +88,10 @@ class Condition:
     right: Term
     is_true: bool = True
 
+    def plain(self) -> Condition:
+        """Returns the condition of the values, if it is one of numbers. A comparison with `=` is one of registers."""
+        return self if self.relation == "=" else replace(self, left=self.left.plain(), right=self.right.plain())
+
 
 def condition_of(left: Term, relation: str, right: Term) -> Condition:
     """Returns the condition of a comparison."""
@@ -92,10 +111,37 @@ class Equation:
     line: int
 
 
+@dataclass(frozen=True)
+class Relation:
+    """A claim that compares two sums of whole numbers. `text` is its text, `line` its line, counted from 1."""
+    left: Term
+    relation: str
+    right: Term
+    text: str
+    line: int
+
+
+@dataclass
+class LoopContract:
+    """The claims before the label of a loop: which registers contain whole numbers and which are as before, what is true of the whole
+    numbers at the label, and what each round makes smaller."""
+    line: int
+    wholes: dict[str, int] = field(default_factory=dict)
+    kept: dict[str, tuple[Term, str, int]] = field(default_factory=dict)
+    relations: list[Relation] = field(default_factory=list)
+    decreases: Term | None = None
+    measure: str = ""
+    measure_line: int = 0
+
+
 @dataclass
 class LineContract:
-    """The claims before a label. `line` is the line of the first of them."""
+    """The claims before a label. `line` is the line of the first of them. `loop` has the claims about a loop."""
     line: int
+    loop: LoopContract
+    wholes: dict[str, int] = field(default_factory=dict)
+    relations: list[Relation] = field(default_factory=list)
+    has_own: bool = False
     numbers: dict[str, int] = field(default_factory=dict)
     in_range: list[tuple[Term, int]] = field(default_factory=list)
     equations: list[Equation] = field(default_factory=list)
@@ -148,7 +194,7 @@ class LineReader(WordReader):
         is_old = bool(self.take("old"))
         if self.keyword == "ensures" and not is_old:
             self.fail("`old` and a register, for example `old X`, or a number, ABS(..), CHS(..) or X^2(..)")
-        return old(self.register())
+        return old(self.register()) if is_old or self.keyword == "requires" else Term("now", (), self.register())
 
     def product(self) -> Term:
         """Returns products and quotients."""
@@ -184,6 +230,10 @@ def read_requires(reader: LineReader, contract: LineContract) -> None:
         contract.is_lift_on = True
         return
     values = [reader.sum()]
+    relation = reader.take(*RELATIONS)
+    if relation:
+        contract.relations.append(Relation(values[0], relation, reader.sum(), reader.text_from(first), line))
+        return
     while reader.take("and"):
         values.append(reader.sum())
     verb = reader.want("is", "are")
@@ -193,14 +243,56 @@ def read_requires(reader: LineReader, contract: LineContract) -> None:
             reader.fail("one operation before `is in range`, for example `Y + X is in range`", reader.tokens[first])
         contract.in_range.append((values[0], line))
         return
-    if verb == "is" and not (reader.take("a") and reader.take("number")):
-        reader.fail("`a number` or `in range`")
-    if verb == "are":
-        reader.want("numbers")
+    is_whole = read_kind(reader, verb)
     for value in values:
         if value.op != "old":
             reader.fail(f"{REGISTER} before `is a number`", reader.tokens[first])
-        contract.numbers[value.name] = line
+        (contract.wholes if is_whole else contract.numbers)[value.name] = line
+
+
+def read_kind(reader: LineReader, verb: str) -> bool:
+    """Reads `a number`, `a whole number`, `numbers` or `whole numbers` after `is` or `are`. Returns whether the numbers are whole."""
+    article = verb == "is" and bool(reader.take("a"))
+    is_whole = bool(reader.take("whole"))
+    if verb == "is" and not (article and reader.take("number")):
+        reader.fail("`a number` or `in range`")
+    if verb == "are":
+        reader.want("numbers")
+    return is_whole
+
+
+def read_invariant(reader: LineReader, contract: LineContract) -> None:
+    """Reads what is true at the label of a loop: which registers contain whole numbers, or are as before, or a comparison."""
+    first, line, loop = reader.at, reader.now().line, contract.loop
+    names: list[str] = []
+    while reader.now().text in STACK or DATA.fullmatch(reader.now().text):
+        names.append(reader.register())
+        if not reader.take("and"):
+            break
+    if names and reader.now().text == "as" or names and [one.text for one in reader.tokens[reader.at:reader.at + 2]] in (
+            ["is", "unchanged"], ["are", "unchanged"]):
+        unchanged(reader)
+        loop.kept |= {name: (old(name), reader.text_from(first), line) for name in names}
+    elif names and reader.now().text in ("is", "are"):
+        if not read_kind(reader, reader.want("is", "are")):
+            reader.fail("`a whole number`, `as before` or a comparison, because other numbers are not supported in `invariant`",
+                        reader.tokens[first])
+        loop.wholes |= {name: line for name in names}
+    else:
+        reader.at = first
+        left = reader.sum()
+        relation = reader.take(*RELATIONS) or reader.fail("one of the signs = <> < <= > >=, `is a whole number` or `as before`")
+        loop.relations.append(Relation(left, relation, reader.sum(), reader.text_from(first), line))
+
+
+def read_decreases(reader: LineReader, contract: LineContract) -> None:
+    """Reads the number that each round of a loop makes smaller."""
+    first, loop = reader.at, contract.loop
+    if loop.decreases:
+        reader.fail("one number after `decreases`, because this loop has one already")
+    loop.measure_line = reader.now().line
+    loop.decreases = reader.sum()
+    loop.measure = reader.text_from(first)
 
 
 def read_ensures(reader: LineReader, contract: LineContract) -> None:
@@ -253,7 +345,8 @@ def read_group(keyword: str, tokens: list[Token], end: Token, contract: LineCont
     """Reads the claims after one keyword."""
     reader = LineReader(keyword, tokens, end)
     while True:
-        {"requires": read_requires, "ensures": read_ensures}[keyword](reader, contract)
+        {"requires": read_requires, "ensures": read_ensures, "invariant": read_invariant, "decreases": read_decreases}[keyword](
+            reader, contract)
         if reader.at == len(tokens):
             return
         if reader.now().text in CONDITIONS and keyword == "ensures" and reader.now().text != "or":
@@ -267,10 +360,7 @@ def keyword_of(text: str, line: int, column: int) -> str | None:
     word = WORD.match(text)
     if not word:
         return None
-    if word[0] in NO_LOOP:
-        raise Wrong(line, column, f"found `{word[0]}`, but loops of programs are not supported: prove the program up to the loop, or write "
-                    "the proof by hand, see Programs in docs/PROVE-YOUR-MODULE.md")
-    if word[0] in ("requires", "ensures"):
+    if word[0] in ("requires", "ensures", *LOOP):
         return word[0]
     check_spelling(word[0], text, line, column)
     return None
@@ -295,7 +385,9 @@ def contract_before(lines: list[str], label: int) -> LineContract | None:
             groups[-1] = groups[-1][0], groups[-1][1] + tokens, end
     if not groups:
         return None
-    contract = LineContract((groups[0][1] or [groups[0][2]])[0].line)
+    first_line = (groups[0][1] or [groups[0][2]])[0].line
+    contract = LineContract(first_line, LoopContract(first_line))
     for keyword, tokens, end in groups:
+        contract.has_own |= keyword not in LOOP
         read_group(keyword, tokens, end, contract)
     return contract

@@ -7,11 +7,12 @@ from .lineproofs import ProgramProof
 from .linetheorems import Program, spec_of
 from .statements import CRATE
 
-LAWS = {"h41_decimal::laws": ("decimal_is_its_nearest",), "h41_program::laws": ("lists_are_determined", "one_list"),
+LAWS = {"h41_decimal::laws": ("decimal_is_its_nearest", "register_is_determined"),
+        "h41_program::laws": ("lists_are_determined", "one_list"),
         "h41_laws_words::numbers": ("decimal_has_one_register", "fraction_has_one_nearest", "quotients_have_one_nearest")}
 ANSWER = ("c.decimal_is_its_nearest.ensures c.decimal_has_one_register.ensures.register c.decimal_has_one_register.ensures.decimal "
           "c.one_list.ensures c.fraction_has_one_nearest.ensures c.quotients_have_one_nearest.ensures.quotient "
-          "c.lists_are_determined.ensures.read")
+          "c.lists_are_determined.ensures.read c.register_is_determined.ensures")
 
 
 def function_of(program: Program) -> str:

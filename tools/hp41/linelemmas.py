@@ -2,10 +2,11 @@
 from __future__ import annotations
 
 LAWS = "(itself : DecimalIsItsNearest) (registers : DecimalHasOneRegister) (decimals : RegisterHoldsDecimal) (lists : OneList)\n" \
-       "    (fractions : FractionHasOneNearest) (quotients : QuotientHasOneNearest) (one_reading : ReadIsDetermined)"
-LAW_NAMES = "itself registers decimals lists fractions quotients one_reading"
+       "    (fractions : FractionHasOneNearest) (quotients : QuotientHasOneNearest) (one_reading : ReadIsDetermined)\n" \
+       "    (determined : RegisterIsDetermined)"
+LAW_NAMES = "itself registers decimals lists fractions quotients one_reading determined"
 LAW_TYPES = ("DecimalIsItsNearest → DecimalHasOneRegister → RegisterHoldsDecimal → OneList → FractionHasOneNearest → "
-             "QuotientHasOneNearest → ReadIsDetermined")
+             "QuotientHasOneNearest → ReadIsDetermined → RegisterIsDetermined")
 
 # For each function its row, the lemma of its result, and the lemma of a result that is out of range.
 TWO = {"+": ("values.Sum Y X", "added", "sum_is_out"), "-": ("values.Difference Y X", "subtracted", "difference_is_out"),
@@ -22,15 +23,17 @@ TESTS = {"X<Y?": ("rows.Below (rows.In X) (rows.In Y)", "comparable", "tells_bel
          "X=0?": ("rows.Same (rows.In X) rows.Nought", "", ""), "X=Y?": ("rows.Same (rows.In X) (rows.In Y)", "", ""),
          "X#0?": ("rows.Differ (rows.In X) rows.Nought", "", ""), "X#Y?": ("rows.Differ (rows.In X) (rows.In Y)", "", "")}
 
-PROOF_USED = """use Rattle.std.proofs.Common.{refl, sym, ap, ◌∙◌, ◌≤◌, Some, subst, arith, inl, inr, length, Bool, Err, Result}
+PROOF_USED = """use Rattle.std.proofs.Common.{refl, sym, ap, ◌∙◌, ◌+◌, ◌++◌, None, Some, subst, arith, inl, inr, Err, Result, zero, suc}
 use Rattle.std.specs.Prelude.{not}
-use Rattle.h41_decimal.specs.Laws.{DecimalIsItsNearest}
+use Rattle.h41_decimal.specs.Laws.{DecimalIsItsNearest, RegisterIsDetermined}
 use Rattle.h41_decimal.specs.declared.fault.DecimalFault.{DecimalFault}
 use Rattle.h41_decimal.specs.declared.fault.DecimalFault.TheVariants.{Data, Range}
 use Rattle.h41_decimal.specs.declared.ten.Ten.TheVariants.{Zero}
 use Rattle.h41_laws_words.specs.DecimalAnswers.{DecimalHasOneRegister, FractionHasOneNearest, QuotientHasOneNearest}
 use Rattle.h41_laws_words.specs.DecimalAnswers.{RegisterHoldsDecimal}
+use Rattle.h41_focal.specs.Destinations.{with_return}
 use Rattle.h41_positions.specs.declared.position.Position.{Position}
+use Rattle.h41_program.specs.Edits.{lines_of}
 use Rattle.h41_program.specs.ProgramBytes.{final_position, program_bytes}
 use Rattle.h41_program.specs.ProgramLaws.{OneList, ReadIsDetermined}
 use Rattle.h41_program.specs.ProgramLines.{Reads}
@@ -39,15 +42,20 @@ use Rattle.h41_program.specs.declared.listed_line.ListedLine.{ListedLine}
 use Rattle.h41_ram.specs.RegisterMap.{RegisterMap}
 use Rattle.h41_rows.specs.Places.{X, Y}
 use Rattle.h41_rows.specs.Rows as rows
-use Rattle.h41_rows.specs.Values.{IsRegisterOf}
 use Rattle.h41_rows.specs.Values as values
 use Rattle.h41_reasoning_lines.specs.ProgramStates.{with_content}
+use Rattle.h41_reasoning_lines.proofs.Calls.{becomes, call_then, calls_local, calls_named, content_there, kept_but, lines_there}
+use Rattle.h41_reasoning_lines.proofs.Calls.{memory_there}
+use Rattle.h41_reasoning_lines.proofs.Calls.{name_there, one_return_more, part_of, program_there, rest_lines, same_stack, size_there}
+use Rattle.h41_reasoning_lines.proofs.Calls.{recontented, sound_there}
 use Rattle.h41_reasoning_lines.proofs.Computing.{added, comparable, comparable_turned, comparable_x, divided, made_absolute, made_negative}
 use Rattle.h41_reasoning_lines.proofs.Computing.{multiplied, number_there, squared, subtracted, tells_above, tells_at_most, tells_below}
 use Rattle.h41_reasoning_lines.proofs.Computing.{tells_negative, tells_not_positive, tells_positive}
+use Rattle.h41_reasoning_lines.proofs.Counting.{counts_down, counts_to_zero}
 use Rattle.h41_reasoning_lines.proofs.Errors.{difference_is_out, never_data, no_quotient, product_is_out, quotient_is_out}
 use Rattle.h41_reasoning_lines.proofs.Errors.{square_is_out, sum_is_out}
-use Rattle.h41_reasoning_lines.proofs.Labels.{found_onward, label_after, label_here, no_end, none_late, position_next}
+use Rattle.h41_reasoning_lines.proofs.Labels.{found_back, found_onward, label_after, label_at_end, label_here, no_end, none_late}
+use Rattle.h41_reasoning_lines.proofs.Labels.{position_next}
 use Rattle.h41_reasoning_lines.proofs.Listed.{IsListed, in_turn_to_end}
 use Rattle.h41_reasoning_lines.proofs.ProgramStates.{begins, other_content}
 use Rattle.h41_reasoning_lines.proofs.ProgramSteps.{changes_sign, clear_there, clears_x, ends_back, enters, enters_number, exchanges, fails}
@@ -56,13 +64,45 @@ use Rattle.h41_reasoning_lines.proofs.ProgramSteps.{passes_global, passes_label,
 use Rattle.h41_reasoning_lines.proofs.ProgramSteps.{goes_to, stores, tests_false, tests_true, works_on_one, works_on_two}
 use Rattle.h41_reasoning_lines.proofs.Rounds.{by_last, line_then, more_lines_suffice}
 use Rattle.h41_reasoning_lines.proofs.SignedDecimals.{absolute, negative}
-use Rattle.h41_reasoning_lines.proofs.Stepping.{before_line, own_place}
+use Rattle.h41_reasoning_lines.proofs.Stepping.{after_line, before_line, own_place}
+use Rattle.h41_reasoning_lines.proofs.Wholes.{whole_ten}
+use Rattle.h41_reasoning_lines.proofs.WholeSteps.{difference_whole, is_some, is_zero, le_false, le_true, lt_false, lt_true, sum_whole}
+use Rattle.h41_reasoning_lines.proofs.WholeSteps.{typed_whole}
+use Rattle.std.proofs.lemmas.Bool.{cases_lt}
 """
 
 HELPERS = """register_of : DecimalHasOneRegister → (number : Ten) → (register : List ℕ) × IsRegisterOf (units number) register
 register_of registers number =
     let found = registers number in
     (found.answer, record { valid = found.right.valid; holds = found.right.holds })
+
+-- A whole number, as the calculator writes it.
+record WholeIn (n : ℕ) : Type 0 where
+  ten : Ten
+  units_is : units ten ≡ pos (n * one)
+  register : List ℕ
+  of_ten : IsRegisterOf (units ten) register
+  is : IsRegisterOf (pos (n * one)) register
+
+whole_in : DecimalHasOneRegister → (n : ℕ) → n < 10 ^ 10 → WholeIn n
+whole_in registers n small =
+    let ten = whole_ten n small in
+    let found = register_of registers ten.0 in
+    record {
+      ten = ten.0;
+      units_is = ten.1;
+      register = found.0;
+      of_ten = found.1;
+      is = subst (λ (z : ℤ). IsRegisterOf z found.0) ten.1 found.1;
+    }
+
+-- The rounds of a loop end, because a number falls.
+by_rounds : (Round : ℕ → Type 0) → ((left : ℕ) → ((fewer : ℕ) → fewer < left → Round fewer) → Round left) → (left : ℕ) → Round left
+by_rounds Round round left = from (suc left) left (omega arith)
+  where
+    from : (bound left : ℕ) → left < bound → Round left
+    from zero left less = absurd (omega (arith, less))
+    from (suc bound) left less = round left (λ (fewer : ℕ) under. from bound fewer (omega (arith, less, under)))
 
 -- What is both true and false.
 clash : (truth : Bool) → truth ≡ true → truth ≡ false → ⊥

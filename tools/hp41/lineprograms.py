@@ -6,10 +6,11 @@ from dataclasses import replace
 from typing import NamedTuple
 
 from .claims import Wrong
+from .codes import NotProved
 from .decks import Failure, block, bytes_of, ended, hexadecimal, refused, run, shown
 from .functions import Functions
-from .lineclaims import LISTED, OPPOSITE, Condition, LineContract, contract_before, keyword_of, plain
-from .linesteps import Point
+from .lineclaims import LISTED, OPPOSITE, Condition, LineContract, LoopContract, contract_before, keyword_of, plain
+from .linesteps import Call, Point
 from .linetheorems import Program
 from .lineterms import LABEL, LOCAL, ProgramLine
 from .listings import Listing
@@ -80,7 +81,7 @@ def source_of(path: str, claims: str | None) -> Source:
     data = Memory([row[4:] for row in rows[count:]], TOP).program_bytes()
     # An END that the bench has added after a listing is no line of it.
     own = min(count - ADDED, len(numbers) or count)
-    lines = [ProgramLine(listed[at], numbers[at] if numbers else at + 1, without_nulls(data[places[at]:places[at + 1]]))
+    lines = [ProgramLine(listed[at], numbers[at] if numbers else at + 1, without_nulls(data[places[at]:places[at + 1]]), places[at])
              for at in range(own)]
     return Source(path, lines, data[:places[count - ADDED]], claims or path, texts)
 
@@ -127,20 +128,83 @@ def check_places(source: Source, labels: set[int]) -> None:
             raise Wrong(at + 1, sign.end() + 1, "these claims belong to no label, expected a line with a label directly after the comments")
 
 
+class Finder:
+    """The programs of a source. Each is built after those that it calls."""
+
+    def __init__(self, source: Source) -> None:
+        """Reads the claims."""
+        self.lines = source.lines
+        self.claims: dict[int, tuple[int, str, LineContract]] = {}
+        self.loops: dict[int, LoopContract] = {}
+        for at, text, contract in contracts_in(source):
+            first = next(place for place, line in enumerate(source.lines)
+                         if line.text == text and place not in self.claims and (source.path != source.claims or line.number == at + 1))
+            if contract.has_own and contract.loop.decreases:
+                raise Wrong(contract.loop.line, 1, f"found claims about a loop and others before `{text}`, expected the label of the loop "
+                            "on a line of its own, for example LBL 01 after it")
+            if contract.has_own:
+                self.claims[first] = (at + 1, text, contract)
+            elif LABEL.fullmatch(text):
+                raise Wrong(contract.line, 1, f"found claims about a loop before `{text}`, expected them before a local label, to which "
+                            "GTO leads back, for example LBL 01")
+            else:
+                self.loops[first] = contract.loop
+        self.known: dict[int, Program] = {}
+        self.running: list[int] = []
+
+    def program(self, first: int) -> Program:
+        """Returns the program with claims at a place."""
+        if first not in self.known:
+            self.running.append(first)
+            text, contract = self.claims[first][1:]
+            is_start = not first or self.lines[first - 1].text == "END"
+            name = text[5:-1] if LABEL.fullmatch(text) else self.local_name(first)
+            end = next((place for place in range(first, len(self.lines)) if self.lines[place].text == "END"), len(self.lines))
+            loops = {place - first: loop for place, loop in self.loops.items() if first < place < end}
+            self.known[first] = Program(name, self.lines[first:], contract, is_start, lambda at: self.called(first, first + at), loops)
+            self.running.pop()
+        return self.known[first]
+
+    def local_name(self, first: int) -> str:
+        """Returns the name of a local label, with the number of an earlier one with the same text."""
+        text = self.lines[first].text
+        count = sum(1 for line in self.lines[:first] if line.text == text)
+        return f"{text.replace(' ', '_')}{f'_{count + 1}' if count else ''}"
+
+    def called(self, first: int, at: int) -> Call:
+        """Returns the subroutine that the XEQ at a place calls, in the program that begins at another place."""
+        line = self.lines[at]
+        label = f"LBL {line.text[4:]}"
+        places = [place for place, one in enumerate(self.lines) if one.text == label]
+        if LOCAL.fullmatch(label):
+            end = next((place for place in range(at, len(self.lines)) if self.lines[place].text == "END"), len(self.lines))
+            found = next((place for place in places if at < place < end), next((place for place in places if first < place < end), None))
+        else:
+            found = places[-1] if places else None
+        if found is None:
+            place = "program" if LOCAL.fullmatch(label) else "file"
+            raise NotProved(line.number, f"`{line.text}`: found no {label} in the {place}: put the lines of the subroutine there")
+        if found not in self.claims:
+            raise NotProved(line.number, f"`{line.text}`: {label} has no claims: write comments before it that say what it requires and "
+                                         "leaves")
+        if found in self.running:
+            raise NotProved(line.number, f"`{line.text}`: a subroutine that calls itself is not supported")
+        return Call(self.program(found), found - first if LOCAL.fullmatch(label) else None)
+
+
 def programs_in(source: Source) -> list[tuple[int, Program]]:
-    """Returns the programs with claims, with the number of the line of each label."""
-    found = []
-    for at, text, contract in contracts_in(source):
-        name = LABEL.fullmatch(text)
-        if not name:
-            raise Wrong(at + 1, 1, f"found claims before `{text}`, expected them before a label with a name, for example LBL \"SUB\": "
-                        "claims about local labels are not supported")
-        first = next(place for place, line in enumerate(source.lines) if line.text == text)
-        is_start = not first or source.lines[first - 1].text == "END"
-        found.append((at + 1, Program(text[5:-1], source.lines[first:], contract, is_start)))
-    if not found:
+    """Returns the programs with claims, with the number of the line of each label. Each is after those that it calls."""
+    finder = Finder(source)
+    for first in finder.claims:
+        finder.program(first)
+    if not finder.known:
         raise Failure(f"{source.claims}: found no claims, expected a comment before a label, for example `; ensures X = old Y`")
-    return found
+    reached = {first + place for first, program in finder.known.items() for place in program.walk.loops}
+    for place, loop in finder.loops.items():
+        if place not in reached:
+            raise Wrong(loop.line, 1, f"found claims about a loop before `{source.lines[place].text}`, which no program with claims "
+                        "reaches: put claims before the label of its program, for example `; ensures X = old Y`")
+    return [(finder.claims[first][0], program) for first, program in finder.known.items()]
 
 
 class Mismatch(NamedTuple):
@@ -153,20 +217,18 @@ class Mismatch(NamedTuple):
 def mismatches(program: Program) -> list[Mismatch]:
     """Returns the claims that do not follow from the values that the lines compute, with the state that is reached."""
     found: dict[str, Mismatch] = {}
-    points = [program.walk.start]
-    while points:
-        point = points.pop()
-        points += reversed(point.after)
+    for point in program.walk.points():
         if point.kind != "end":
             continue
         for one, value, condition in program.equations:
             reached = point.state.register(one.register)
-            if reached != value and not excluded(point, condition):
+            is_whole = None not in (program.walk.nat(reached), program.walk.nat(value))
+            if reached.plain() != value and not is_whole and not excluded(point, condition):
                 found.setdefault(one.text, Mismatch(one.line, one.text, f"at {program.lines[point.at].text}, line {point.at + 1} from the "
                                                     f"label on, {one.register} contains {plain(reached.text())}{path_of(point)}"))
-    if program.contract.most and program.contract.most[0] < program.most:
-        _, text, line = program.contract.most
-        found[text] = Mismatch(line, text, f"the program takes up to {program.most} lines")
+    most = program.contract.most
+    if most and (program.most.parts or most[0] < program.most.constant):
+        found[most[1]] = Mismatch(most[2], most[1], f"the program takes up to {program.most.shown()} lines")
     return list(found.values())
 
 

@@ -2,10 +2,13 @@
 from __future__ import annotations
 
 from .lineclaims import Condition, Term
+from .linecalls import CallProof
+from .lineloops import WholeProof
 from .linelemmas import HELPERS, LAW_NAMES, LAW_TYPES, LAWS, PROOF_USED, SIMPLE, TESTS, TWO
+from .linesearches import Searches
 from .linesteps import EXACT, PLACES, Fact, Point, State
 from .linetheorems import FAULTS, USED, Program, new_results
-from .lineterms import GO_TO, LOCAL, NAMED, PLAIN, characters_of, term_of
+from .lineterms import GO_TO, LOCAL, NAMED, PLAIN, characters_of, kinds_of, term_of
 from .statements import CRATE
 
 
@@ -16,8 +19,11 @@ class ProgramProof:
     def __init__(self, program: Program) -> None:
         """Writes the statements of all points."""
         self.program = program
+        # The contents of registers that subroutines have left, where they are not variables.
+        self.bound: dict[str, str] = {}
         self.parts: list[str] = []
         self.rows: list[tuple[str, int, str]] = []
+        self.whole_part = WholeProof(self)
         self.define(program.walk.start)
 
     # Values.
@@ -38,12 +44,14 @@ class ProgramProof:
 
     def register(self, term: Term) -> str:
         """Returns the register of a value, as an argument."""
+        if term.op == "left":
+            return self.bound.get(term.name, term.name)
         return self.program.register(term, "old") if term.op == "old" else f"(register_of registers {self.decimal(term)}).0"
 
     def holds(self, term: Term) -> str:
         """Returns the proof that the register contains the number of a value, as an argument."""
-        if term.op == "old":
-            return f"in_{term.name.lower()}"
+        if term.op in ("old", "left"):
+            return f"is_{term.name.lower()}.holds" if self.program.walk.nat(term) is not None else f"in_{term.name.lower()}"
         known = f"(register_of registers {self.decimal(term)}).1.holds"
         return f"({known} ∙ ap (λ (z : ℤ). Number z) {self.signed(term)}.1)" if term.op in EXACT else known
 
@@ -80,12 +88,46 @@ class ProgramProof:
                 found += f"({name} : Ten) (is_{name} : {self.nearest(fact.result, f'(Ok {name})')}) → "
             elif fact.condition:
                 found += f"(t{at} : {self.truth(fact.condition)} ≡ {'true' if fact.condition.is_true else 'false'}) → "
+            elif fact.left:
+                found += self.given_left(fact.left)
+            elif fact.relation:
+                found += f"(t{at} : {' '.join(fact.relation)}) → "
+            elif fact.loop:
+                number = fact.loop.number
+                found += f"(left_{number} : ℕ) → (again_{number} : Again_{number} left_{number}) → "
+                found += f"(counted_{number} : left_{number} ≡ {fact.loop.measure}) → "
+            else:
+                found += f"({fact.switch} : Bool) → "
         return found
+
+    def given_left(self, left: Term) -> str:
+        """Returns what is known of a register, as arguments of a statement."""
+        name, value = left.name, left.args
+        number = self.program.walk.nat(value[0]) if value else None
+        if number is not None:
+            own = f"({number} : ℕ) → " if value[0].op == "whole" else ""
+            return (f"{own}({name} : List ℕ) → (is_{name} : IsRegisterOf (pos ({number} * one)) {name}) → "
+                    f"(small_{name} : {number} < 10 ^ 10) → ")
+        known = f"(in_{name} : holding_of {name} ≡ Number {self.program.amount(value[0])}) → " if value else ""
+        return f"({name} : List ℕ) → {known}"
 
     def names(self, facts: tuple[Fact, ...]) -> str:
         """Returns the names of the facts."""
-        return " ".join(f"{self.program.result(fact.result)} is_{self.program.result(fact.result)}" if fact.result else f"t{at}"
-                        for at, fact in enumerate(facts))
+        return " ".join(self.name_of(at, fact) for at, fact in enumerate(facts))
+
+    def name_of(self, at: int, fact: Fact) -> str:
+        """Returns the names of a fact."""
+        if fact.result:
+            return f"{self.program.result(fact.result)} is_{self.program.result(fact.result)}"
+        if fact.left:
+            value, name = fact.left.args, fact.left.name
+            if value and self.program.walk.nat(value[0]) is not None:
+                own = f"{value[0].name} " if value[0].op == "whole" else ""
+                return f"{own}{name} is_{name} small_{name}"
+            return f"{name} in_{name}" if value else name
+        if fact.loop:
+            return f"left_{fact.loop.number} again_{fact.loop.number} counted_{fact.loop.number}"
+        return fact.switch or f"t{at}"
 
     # Places.
 
@@ -101,7 +143,7 @@ class ProgramProof:
     @staticmethod
     def lift(state: State) -> str:
         """Returns whether stack lift is on."""
-        return "lift" if state.lift is None else "true" if state.lift else "false"
+        return state.switch if state.lift is None else "true" if state.lift else "false"
 
     # Statements.
 
@@ -122,11 +164,38 @@ class ProgramProof:
         self.parts.append(text)
         self.rows += [("", self.program.lines[point.at].number, "")] * (text.count("\n") + 1)
 
+    def put_rows(self, point: Point, rows: list[tuple[str, int, str]]) -> None:
+        """Adds statements that belong to a program line, except for lines that belong to a claim: each has its text, and the line and the
+        text of its claim."""
+        self.parts.append("\n".join(row for row, _, _ in rows))
+        self.rows += [("", line or self.program.lines[point.at].number, claim) for _, line, claim in rows]
+
+    def define_exact(self, point: Point) -> None:
+        """Writes the statement of a line whose result is a whole number."""
+        self.whole_part.exact(point)
+
+    def define_compare(self, point: Point) -> None:
+        """Writes the statement of a test that compares whole numbers."""
+        self.whole_part.compare(point)
+
+    def define_count(self, point: Point) -> None:
+        """Writes the statement of DSE."""
+        self.whole_part.count(point)
+
+    def define_enter(self, point: Point) -> None:
+        """Writes the statement of the place at which a loop begins."""
+        self.whole_part.enter(point)
+
+    def define_again(self, point: Point) -> None:
+        """Writes the statement of the end of a round."""
+        self.whole_part.again(point)
+
     def go_on(self, point: Point, after: Point, step: str, facts: str) -> str:
         """Returns the proof that a line continues, and that the program leaves what it should from there."""
         rest = f"(line_then pages {after.most} _ _ After done.step ({after.name} {facts} done.memory done.has))"
-        if after.most + 1 < point.most:
-            rest = f"(more_lines_suffice pages {after.most + 1} {point.most} _ After (omega arith) {rest})"
+        if after.most.parts or after.most.more(1) != point.most:
+            known = f"(1 + {after.most})" if after.most.parts else str(after.most.more(1))
+            rest = f"(more_lines_suffice pages {known} {point.most} _ After (omega arith) {rest})"
         return f"let done = {step} in {rest}"
 
     def define_line(self, point: Point) -> None:
@@ -144,7 +213,7 @@ class ProgramProof:
                         f"{by} {names} true memory has = {self.widened(point, on, names)}\n"
                         f"{by} {names} false memory has = {self.widened(point, off, names)}\n\n"
                         f"{point.name} : {self.given(point.facts)}{self.leaves(point)}\n"
-                        f"{point.name} {names} memory has = {by} {names} lift memory has")
+                        f"{point.name} {names} memory has = {by} {names} {point.state.switch} memory has")
 
     @staticmethod
     def widened(point: Point, after: Point, names: str) -> str:
@@ -152,6 +221,12 @@ class ProgramProof:
         text = f"{after.name} {names} memory has"
         return text if after.most == point.most else (f"more_lines_suffice pages {after.most} {point.most} _ After (omega arith) "
                                                       f"({text})")
+
+    def define_call(self, point: Point) -> None:
+        """Writes the statement of a call."""
+        names = self.names(point.facts)
+        self.put(point, f"{point.name} : {self.given(point.facts)}{self.leaves(point)}\n{point.name} {names} memory has =\n    "
+                        f"{CallProof(self, point).text()}")
 
     def define_test(self, point: Point) -> None:
         """Writes the statement of a test: both ways."""
@@ -275,23 +350,24 @@ class ProgramProof:
         others = " ".join(["n", *(f"other_{number}" for number in program.written())])
         fields = ["returned = back.returned;", f"stack = {stack};", f"contents = {contents};",
                   f"becomes = subst (λ (m : RegisterMap). HasBecome old {stack} {contents} m) (sym back.memory) has;",
-                  f"others = λ {others}. {self.unchanged(state)};"]
+                  f"others = λ {others}. {self.unchanged(state)};", *(["lift = back.lift;"] if program.walk.leaves_lift() else [])]
+        more = f"more_lines_suffice pages 1 {point.most} _ After (omega arith)\n    (" if point.most.parts else ""
         head = (f"{point.name} : {self.given(point.facts)}{self.leaves(point)}\n{point.name} {names} memory has =\n"
-                f"    let back = {back} in\n    by_last pages _ back.left After back.step\n    "
+                f"    let back = {back} in\n    {more}by_last pages _ back.left After back.step\n    "
                 f"{'(inl ' if program.contract.errors else ''}record {{")
         self.put(point, "\n".join([head, *(f"      {one}" for one in fields)]))
         for at in range(len(program.equations)):
             self.parts[-1] += f"\n      claim_{at + 1} = {self.claim(point, at)};"
             one = program.equations[at][0]
             self.rows.append(("", one.line, one.text))
-        self.parts[-1] += "\n    })" if program.contract.errors else "\n    }"
+        self.parts[-1] += "\n    }" + ")" * (bool(program.contract.errors) + bool(more))
         self.rows.append(("", program.lines[point.at].number, ""))
 
-    def unchanged(self, state: State) -> str:
-        """Returns the proof that the other data registers are as before."""
+    def unchanged(self, state: State, others: str = "other_") -> str:
+        """Returns the proof that the other data registers are as before. `others` begins the names of what says that they are others."""
         found, steps = "(data_in old)", []
         for number, value in state.written:
-            steps.append(f"other_content {found} {number} {self.register(value)} n other_{number}")
+            steps.append(f"other_content {found} {number} {self.register(value)} n {others}{number}")
             found = f"(with_content {found} {number} {self.register(value)})"
         return " ∙ ".join(reversed(steps)) or "refl"
 
@@ -305,7 +381,12 @@ class ProgramProof:
             both = f"if_so t{known}" if condition.is_true else f"t{known} if_so"
             return f"λ if_so. absurd (clash {self.truth(condition)} {both})"
         results = "".join(f"{self.program.result(term)}, is_{self.program.result(term)}, " for term in new_results(self.program, value))
-        proof = "refl" if value.op == "old" else self.holds(value)
+        if self.program.walk.nat(value) is not None:
+            reached = point.state.register(one.register)
+            proof = ("refl" if value == reached else self.whole_part.same_register(point, one.register, value) if value.op == "old" else
+                     self.whole_part.claim(point, one.register, value))
+        else:
+            proof = "refl" if value.op == "old" else self.holds(point.state.register(one.register))
         return f"{'λ if_so. ' if condition else ''}{f'({results}{proof})' if results else proof}"
 
     # The file.
@@ -313,11 +394,12 @@ class ProgramProof:
     def text(self) -> str:
         """Returns the file of the proof."""
         program = self.program
-        head = [f"-- The proof that {program.label} leaves what is claimed.", USED, PROOF_USED,
+        head = [f"-- The proof that {program.shown} leaves what is claimed.", USED, PROOF_USED + program.imported("After", "lines") +
+                "".join(f"use Rattle.{CRATE}.proofs.Of_{name} as of_{name.lower()}\n" for name in program.callees()),
                 f"use Rattle.{CRATE}.specs.Of_{program.name}.{{{program.name}_After, {program.name}_Left, {program.name}_Returns, "
-                f"{program.name}_lines}}", "", HELPERS, self.outer(), self.inner()]
+                f"{program.name}_lines}}", "", HELPERS, self.outer(), Searches(program).head()]
         before = "\n".join(head).count("\n") + 1
-        deep = "      " if program.walk.jumps else "    "
+        deep = "      " if program.needs_start else "    "
         body = "\n\n".join("\n".join(deep + row if row else row for row in part.split("\n")) for part in self.parts)
         spaced: list[tuple[str, int, str]] = []
         at = 0
@@ -339,7 +421,10 @@ class ProgramProof:
             rows.append("    (clear_24 : flag_of old range_ignore ≡ false) (clear_25 : flag_of old error_ignore ≡ false)")
         rows += [f"    ({name} : {kind})" for name, kind in program.variables()]
         rows += [f"    ({name} : {kind})" for name, kind in self.facts()]
-        rows += [f"    ({' '.join(program.unknowns())} : ℕ)"] * bool(program.unknowns())
+        rows += [f"    {kinds_of(program.variables_of_lines())}"] * bool(program.variables_of_lines())
+        if program.walk.calls:
+            rows.append("    (count : ℕ) (is_memory : IsMemory count old)")
+        rows += [f"    ({name} : {kind})" for name, kind in program.about_calls("old", "returns")]
         rows[-1] += " where"
         lift = self.lift(program.walk.start.state)
         return "\n".join([*rows, "  abbrev start : Machine", f"  start = before_line old at zero returns {lift}", "",
@@ -347,79 +432,29 @@ class ProgramProof:
 
     def facts(self) -> list[tuple[str, str]]:
         """Returns the requirements on numbers, with their names in the proof."""
-        program = self.program
-        return [*((f"in_{name.lower()}", f"holding_of {program.register(Term('old', (), name), 'old')} ≡ Number of_{name.lower()}")
-                  for name in program.contract.numbers),
-                *((f"is_{program.number(text)}", f"IsNumberOf {characters_of(text)} {program.number(text)}") for text in program.numbers),
-                *((f"is_{program.result(term)}", program.nearest(term, f"(Ok {program.result(term)})"))
-                  for term in program.walk.required)]
-
-    def inner(self) -> str:
-        """Returns the head of the module with the lines."""
-        rows = []
-        for at, line in enumerate(self.program.lines):
-            place = "at listed" if at == 0 else f"l{at - 1}.next l{at - 1}.rest"
-            rows.append(f"(l{at} : IsListed old {place} ({term_of(line.text, at)}))")
-        found = "  module _ (listed : List ListedLine)\n      " + "\n      ".join(rows) + " where"
-        jumps = self.program.walk.jumps
-        if not jumps:
-            return found
-        leads = "\n\n".join(self.leading(at, place) for at, place in sorted(jumps.items()))
-        given = "\n        ".join(f"(lead_{at} : {self.answers(at, place)})" for at, place in sorted(jumps.items()))
-        return f"{found}\n{leads}\n\n    module _ {given} where"
-
-    def answers(self, at: int, place: int) -> str:
-        """Returns the statement that GTO leads to the label at a place."""
-        return f"AnswersLocal old l{at}.next {int(self.program.lines[at].text[4:])} (Some {self.at(place)})"
-
-    def rest(self, place: int) -> str:
-        """Returns the list of the lines from a place on."""
-        return f"l{place - 1}.rest" if place else "listed"
-
-    def leading(self, at: int, place: int) -> str:
-        """Returns the proof that GTO leads to the label at a place after it."""
-        label, here = int(self.program.lines[at].text[4:]), f"l{at}.next"
-        none = f"(none_late old sound {here} {here} l{at}.rest (omega arith) l{at}.reads)"
-        for before in reversed(range(at + 1)):
-            none = f"(no_end old sound {here} {self.at(before)} {self.rest(before)} _ l{before} refl {none})"
-        found = f"label_here old sound {self.at(place)} {label} {self.rest(place)} _ l{place} refl"
-        passed = " ∙ ".join(f"label_after old sound {self.at(one)} {label} {self.rest(one)} _ l{one} refl refl"
-                            for one in range(at + 1, place))
-        onward = ", ".join(f"l{one}.onward" for one in range(at + 1))
-        reads = "Reads (program_bytes old) (final_position old)"
-        return "\n".join([
-            f"    leads_{at} : (all : List ListedLine) → {reads} 0 all → {reads} at listed → at ≡ start_in at all → "
-            f"{self.answers(at, place)}",
-            f"    leads_{at} all all_read reads is_start =", f"        let after : at ≤ {here} = omega (arith, {onward}) in",
-            f"        subst (λ (target : ℕ). AnswersLocal old {here} {label} (Some target))",
-            f"        (sym (position_next old sound {self.at(place - 1)} {self.rest(place - 1)} _ l{place - 1} _ l{place}))",
-            f"        (found_onward old sound one_reading at {here} {label} l{place}.first.position all listed l{at}.rest all_read reads "
-            f"l{at}.reads is_start after", f"        {none}", f"        ({found}{f' ∙ sym ({passed})' if passed else ''}))"])
+        return self.program.about_numbers("old")
 
     def whole(self) -> str:
         """Returns the proof of the theorem from the statement of the first line."""
         program = self.program
-        count = len(program.lines)
-        lines = " ".join("are." + "1." * at + "0" for at in range(count))
-        none_final = "".join("(refl, " for _ in range(count)) + "tt" + ")" * count
+        none_final = "".join("(refl, " for _ in program.lines) + "tt" + ")" * len(program.lines)
         names = [name for name, _ in program.variables()]
         is_on = program.contract.is_lift_on
-        given = [*(["inside"] if program.used else []), *(["clear_24", "clear_25"] if program.contract.errors else []),
-                 *(name for name, _ in self.facts())]
-        unknowns = program.unknowns()
+        before = [*(["inside"] if program.used else []), *(["clear_24", "clear_25"] if program.contract.errors else [])]
+        known = [name for name, _ in self.facts()]
+        calls = [name for name, _ in program.about_calls("old", "returns")]
+        numbers, truths = program.parts()
         on, lift, own_start = ["is_on"] * is_on, "true" if is_on else "s.focal.lift", "own_lifted" if is_on else "own_place"
-        own = [*given[:len(given) - len(self.facts())], *names, *(name for name, _ in self.facts()), *unknowns]
-        jumps = sorted(program.walk.jumps)
-        leads = "".join(f" (leads_{at} has.listed {lines} program.begins.0 (program.begins.1.sound sound) (has.from.sound sound) "
-                        "program.begins.2)" for at in jumps)
-        head = [f"  run : IsProgram old at {program.listed()} → Leaves pages {program.most} start After", "  run program =",
-                "      let has = program.has in"] if jumps else [
-            f"  run : HasProgram old at {program.listed()} → Leaves pages {program.most} start After", "  run has ="]
+        counted = ["count", "is_memory"] if program.walk.calls else []
+        own = [*before, *names, *known, *program.variables_of_lines(), *counted, *calls]
+        head = [f"  run : {program.has('old', 'at', program.unknowns())} → Leaves pages {program.most} start After"]
+        head += ["  run program =", "      let has = program.has in"] if program.needs_start else ["  run has ="]
         return "\n".join([
             *head, f"      let are = in_turn_to_end old sound at {program.listed()} has {none_final} in",
-            f"      {program.walk.start.name} has.listed {lines}{leads} old (begins old sixteen sound)", "",
+            f"      {program.walk.start.name} {Searches(program).given()} old (begins old sixteen sound)", "",
             f"pub proved : {LAW_TYPES} → {program.name}_Returns",
-            " ".join(["proved", LAW_NAMES, "pages s count at", *unknowns, *names, "is_memory sound place has", *on, *given]) + " =",
+            " ".join(["proved", LAW_NAMES, "pages s count at", *numbers, *truths, *names, "is_memory sound place has", *on, *before, *known,
+                      *calls]) + " =",
             f"    subst (λ (u : Machine). Leaves pages {program.most} u {program.after('u')}) "
             f"({' '.join([own_start, 's at place', *on])})",
             f"    (run {LAW_NAMES} pages s.memory at s.focal.at_line_00 s.focal.returns {lift} is_memory.status sound "

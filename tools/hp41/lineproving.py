@@ -44,15 +44,29 @@ def try_programs(report: ProgramReport, programs: list[tuple[int, Program]]) -> 
         known = {one.claim for one in found}
         others = [one for one in mismatches(program) if one.claim not in known and "returns" not in known]
         for mismatch in others:
-            report.bad(mismatch.line, mismatch.claim, f"not proved: {mismatch.why}; no state of {count} shows that it is false")
+            report.bad(mismatch.line, mismatch.claim, f"not proved: {mismatch.why}. It may be true: it is not false from any of the "
+                       f"{count} states that the bench tried")
         if not found and not others:
-            tried[program.label] = count
+            tried[program.name] = count
     return tried
+
+
+def with_callees(report: ProgramReport, programs: list[tuple[int, Program]], tried: dict[str, int]) -> list[tuple[int, Program]]:
+    """Returns the programs without a false claim. A program that calls one with a false claim is no such program."""
+    found: list[tuple[int, Program]] = []
+    for line, program in programs:
+        names = [one.name for _, one in found]
+        missing = [call.program.shown for call in program.walk.calls.values() if call.program.name not in names]
+        if program.name in tried and missing:
+            report.bad(line, "", f"{program.shown}: not proved, because it calls {missing[0]}, whose claims are not proved")
+        elif program.name in tried:
+            found.append((line, program))
+    return found
 
 
 def prove_programs(report: ProgramReport, programs: list[tuple[int, Program]], tried: dict[str, int], options: Namespace) -> None:
     """Proves the theorems of the programs without a false claim."""
-    chosen = [(line, program) for line, program in programs if program.label in tried]
+    chosen = with_callees(report, programs, tried)
     if not chosen:
         return
     with tempfile.TemporaryDirectory() as room:
@@ -64,11 +78,12 @@ def prove_programs(report: ProgramReport, programs: list[tuple[int, Program]], t
     for line, program in chosen:
         if function_of(program).removeprefix("of_") in verdict.proved:
             count = len(program.equations)
-            claims, lines = f"claim{'' if count == 1 else 's'}", f"line{'' if program.most == 1 else 's'}"
-            report.tell(line, f"{program.label}: proved for every state that meets its requirements: {count} {claims}, "
-                        f"within {program.most} {lines}; the bench tried {tried[program.label]} states")
+            claims, lines = f"claim{'' if count == 1 else 's'}", f"line{'' if str(program.most) == '1' else 's'}"
+            report.tell(line, f"{program.shown}: proved for every state that meets its requirements: {count} {claims}, "
+                        f"within {program.most.shown()} {lines}; the bench tried {tried[program.name]} states")
         elif not verdict.faults:
-            report.bad(line, "", f"{program.label}: not proved")
+            report.bad(line, "", f"{program.shown}: not proved, and the prover does not say why: with --keep FOLDER, the proof is in "
+                                 "FOLDER/proofs")
 
 
 def read(options: Namespace) -> tuple[Source, list[tuple[int, Program]]]:
@@ -94,7 +109,7 @@ def run_programs(options: Namespace) -> int:
     if options.is_trial:
         for line, program in programs:
             if program.label in tried:
-                report.tell(line, f"{program.label}: no claim is false from {tried[program.label]} states; nothing is proved")
+                report.tell(line, f"{program.label}: no claim is false from {tried[program.name]} states; nothing is proved")
     else:
         prove_programs(report, programs, tried, options)
     return 0 if report.is_good else 1

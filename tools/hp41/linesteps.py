@@ -2,14 +2,17 @@
 from __future__ import annotations
 
 import re
-from dataclasses import dataclass, replace
+from dataclasses import dataclass, field, replace
 from decimal import Decimal
-from typing import NamedTuple
+from typing import TYPE_CHECKING, Callable, NamedTuple
 
 from .claims import Wrong
 from .codes import NotProved
-from .lineclaims import ZERO, Condition, LineContract, Term, condition_of, old
-from .lineterms import GO_TO, NUMBER, REGISTER, TEST, ProgramLine, term_of
+from .lineclaims import ZERO, Condition, LineContract, LoopContract, Relation, Term, condition_of, old, plain
+from .lineterms import CALL, CALL_NAMED, COUNT, GO_TO, NUMBER, REGISTER, TEST, ProgramLine, term_of
+
+if TYPE_CHECKING:
+    from .linetheorems import Program
 
 # The registers of the stack as the definitions name them.
 PLACES = {"T": "t", "Z": "z", "Y": "y", "X": "x", "L": "last"}
@@ -22,17 +25,20 @@ MOST_POINTS = 400
 # What to write in place of a line that is not supported.
 BRANCH = re.compile("(GTO|XEQ) ")
 LOOP = re.compile("(ISG|DSE) ")
-NO_LOOP = "loops are not supported: write the proof by hand, see A theorem of your own in docs/PROVE-YOUR-MODULE.md"
-NO_BRANCH = ("only GTO 00 to GTO 14 are supported, to a label after the line: prove the lines up to it, or write the proof by hand, see "
-             "A theorem of your own in docs/PROVE-YOUR-MODULE.md")
-NO_START = ("the label is not the first line of its program, so it is not known where GTO leads: put END before the label, or the label at "
-            "the start of the program")
+NO_COUNTER = ("only DSE 00 to DSE 15 of a register that is claimed to contain a whole number are supported: count down with it, or "
+              "write the proof by hand, see A theorem of your own in docs/PROVE-YOUR-MODULE.md")
+NO_LOOP = ("this line leads back, and nothing says that the loop ends: put comments `invariant` and `decreases` before the label, see "
+           "Loops of programs in docs/PROVE-YOUR-MODULE.md")
+NO_BRANCH = ("only GTO 00 to GTO 14, XEQ 00 to XEQ 14 and XEQ with a name are supported: prove the lines up to it, or write the proof by "
+             "hand, see A theorem of your own in docs/PROVE-YOUR-MODULE.md")
+NO_START = ("the label with the claims is not the first line of its program, so it is not known where this line leads: put END before "
+            "that label")
 
 
 @dataclass(frozen=True)
 class State:
     """The values in the registers before a line. `written` has the data registers that were written, in their order. `lift` is None if it
-    is not known whether stack lift is on."""
+    is not known whether stack lift is on; then `switch` names the variable that says it."""
     t: Term
     z: Term
     y: Term
@@ -40,6 +46,7 @@ class State:
     last: Term
     written: tuple[tuple[int, Term], ...] = ()
     lift: bool | None = None
+    switch: str = "lift"
 
     def register(self, name: str) -> Term:
         """Returns the value in a register."""
@@ -63,25 +70,103 @@ START = State(old("T"), old("Z"), old("Y"), old("X"), old("L"))
 
 
 class Fact(NamedTuple):
-    """What is known on a path: the result of an operation, or whether a condition is true."""
-    result: Term | None
-    condition: Condition | None
+    """What is known on a path: the result of an operation, whether a condition is true, what a subroutine or a line has left in a register,
+    the name of the variable that says whether stack lift is on, a comparison of natural numbers, or that a round of a loop has begun."""
+    result: Term | None = None
+    condition: Condition | None = None
+    left: Term | None = None
+    switch: str = ""
+    relation: tuple[str, str, str] | None = None
+    loop: Loop | None = None
+
+
+class Call(NamedTuple):
+    """A subroutine that a line calls, and the place of its label if that is in the same program."""
+    program: Program
+    place: int | None
+
+
+@dataclass(frozen=True)
+class Count:
+    """A number of lines: a constant, and multiples of natural numbers of the definitions."""
+    constant: int
+    parts: tuple[tuple[int, str], ...] = ()
+
+    def __str__(self) -> str:
+        """Returns the number as the definitions have it."""
+        found = " + ".join([*(f"{many} * {one}" for many, one in self.parts), str(self.constant)])
+        return f"({found})" if self.parts else found
+
+    def shown(self) -> str:
+        """Returns the number in words for a reader, with the registers before the program."""
+        text = str(self).removeprefix("(").removesuffix(")") if self.parts else str(self)
+        return re.sub(r"whole_(\w+)", lambda found: found[1].upper(), text)
+
+    def more(self, lines: int | Count) -> Count:
+        """Returns the number with more lines."""
+        other = lines if isinstance(lines, Count) else Count(lines)
+        return Count(self.constant + other.constant, (*self.parts, *other.parts))
+
+
+@dataclass(eq=False)
+class Loop:
+    """A loop: its number, the place of its label, its claims, the state at its label, what is known there of the registers, and whether
+    stack lift is on. `relations` are its comparisons there, `measure` is what falls, and `start` is the point at the label."""
+    number: int
+    place: int
+    contract: LoopContract
+    state: State
+    facts: tuple[Fact, ...]
+    is_on: bool
+    relations: list[tuple[str, str, str, Relation]] = field(default_factory=list)
+    measure: str = ""
+    start: Point | None = None
+
+    def round(self) -> int:
+        """Returns the greatest number of lines of a round that another one follows."""
+        return self.start.ways.get("again", 0) if self.start else 0
+
+    def rest(self) -> int:
+        """Returns the number of lines in addition to those of the rounds."""
+        return max(self.round(), self.start.ways.get("", 0) if self.start else 0)
 
 
 @dataclass
 class Point:
     """A line that is reached, with the state before it and what is known. `kind` says what happens: `line`, `lift` (it depends on stack
-    lift), `test`, `outcome` (the result may be out of range) or `end`. `after` has the points after it, and `most` the greatest number of
-    lines from it on."""
+    lift), `test`, `outcome` (the result may be out of range), `call` or `end`; with whole numbers also `exact`, `compare`, `count`, and at
+    the label of a loop `enter` and `again`. `after` has the points after it. `ways` has the greatest number of lines up to the end of the
+    program or to the label of the loop, and `again` to the label of the loop in which the point is. `entered` is the loop that begins
+    here."""
     name: str
     at: int
     state: State
     facts: tuple[Fact, ...]
     kind: str
     after: list[Point]
-    most: int = 1
     result: Term | None = None
     condition: Condition | None = None
+    ways: dict[str, int] = field(default_factory=dict)
+    loop: Loop | None = None
+    entered: tuple[Loop, str, Term] | None = None
+
+    def entries(self) -> list[tuple[int, Loop, str, Term]]:
+        """Returns the loops that follow, with the greatest number of lines before them, and what falls there, as the definitions have it
+        and as a term."""
+        if self.entered:
+            return [(0, *self.entered)]
+        own = 0 if self.kind == "lift" else 1
+        return [(lines + own, loop, measure, term) for one in self.after for lines, loop, measure, term in one.entries()]
+
+    @property
+    def most(self) -> Count:
+        """Returns the greatest number of lines from the point on."""
+        if self.loop:
+            left = self.ways["again"] + self.loop.rest() - self.loop.round() if "again" in self.ways else 0
+            return Count(max(self.ways.get("", 0), left), ((self.loop.round(), f"left_{self.loop.number}"),))
+        entries = self.entries()
+        parts = tuple(dict.fromkeys((loop.round(), measure) for _, loop, measure, _ in entries))
+        return Count(max([self.ways.get("", 0), *(lines + loop.rest() for lines, loop, _, _ in entries)]), parts)
 
 
 def test_of(text: str, state: State) -> Condition:
@@ -111,11 +196,16 @@ def moved(text: str, state: State) -> State:
 class Walk:
     """All paths through a program, from a label on."""
 
-    def __init__(self, lines: list[ProgramLine], contract: LineContract, is_start: bool = True) -> None:
-        """Follows all paths. `is_start` says whether the label is the first line of a program."""
-        self.lines, self.contract, self.count, self.is_start = lines, contract, 0, is_start
-        # The places to which GTO leads, by the places of the lines.
+    def __init__(self, lines: list[ProgramLine], contract: LineContract, is_start: bool = True,
+                 called: Callable[[int], Call] | None = None) -> None:
+        """Follows all paths. `is_start` says whether the label is the first line of a program, and `called` finds the subroutine that the
+        XEQ at a place calls."""
+        self.lines, self.contract, self.count, self.is_start, self.called = lines, contract, 0, is_start, called
+        # The places to which GTO leads, and the subroutines that XEQ calls, by the places of the lines.
         self.jumps: dict[int, int] = {}
+        self.calls: dict[int, Call] = {}
+        # The loops, by the places of their labels.
+        self.loops: dict[int, Loop] = {}
         self.required: list[Term] = []
         self.last = 0
         for term, line in contract.in_range:
@@ -133,14 +223,25 @@ class Walk:
             return Term("number", (), (spelled or [term.name])[0])
         return replace(term, args=tuple(map(self.resolved, term.args)))
 
+    def points(self) -> list[Point]:
+        """Returns all points that are reached."""
+        found = [self.start, *(loop.start for loop in self.loops.values() if loop.start)]
+        for point in found:
+            found += point.after
+        return found
+
+    def all_written(self) -> list[int]:
+        """Returns the data registers that lines of the program write."""
+        end = next((place for place, line in enumerate(self.lines) if line.text == "END"), len(self.lines))
+        return registers_in([line for line in self.lines[:end] if line.text.startswith(("STO", "DSE"))])
+
     def tests(self) -> set[Condition]:
         """Returns the conditions of all tests that are reached."""
-        points, found = [self.start], set()
-        while points:
-            point = points.pop()
-            points += point.after
-            found |= {point.condition} if point.condition else set()
-        return found
+        return {point.condition for point in self.points() if point.condition}
+
+    def leaves_lift(self) -> bool:
+        """Returns whether stack lift is on after the program, on all paths."""
+        return all(point.state.lift for point in self.points() if point.kind == "end")
 
     def fail(self, at: int, why: str) -> NotProved:
         """Returns the error that a line cannot be proved."""
@@ -151,30 +252,38 @@ class Walk:
         """Returns the point at a line."""
         self.count += 1
         if self.count > MOST_POINTS:
-            raise self.fail(at, f"there are more than {MOST_POINTS} points on the paths through the tests: prove a shorter program")
+            raise self.fail(at, f"the tests before this line make too many paths: {MOST_POINTS} lines on all paths together are possible. "
+                                "Turn a part of the program into a subroutine with its own claims")
         if at >= len(self.lines):
-            raise self.fail(at, "the lines end here without RTN or END: add one of them")
+            raise self.fail(at, "no line follows, and the program does not return: add RTN or END after this line")
         self.last = max(self.last, at)
         self.check(at)
         made = Point(f"p{self.count}", at, state, facts, "line", [])
         self.follow(made, self.lines[at].text)
-        made.most = 1 if made.kind == "end" else max(self.most_from(made, one) for one in made.after)
+        made.ways = {"": 1} if made.kind == "end" else {}
+        own = 0 if made.kind == "lift" else 1 + self.calls[at].program.most.constant if made.kind == "call" else 1
+        for one in made.after:
+            for way, lines in one.ways.items():
+                made.ways[way] = max(made.ways.get(way, 0), lines + own)
         return made
 
-    @staticmethod
-    def most_from(before: Point, after: Point) -> int:
-        """Returns the greatest number of lines from a point on, if the program continues at another one."""
-        return after.most if before.kind == "lift" else after.most + 1
+    def nat(self, term: Term) -> str | None:
+        """Returns a value as a natural number of the definitions; None if whole numbers are not followed."""
+        return None
 
     def check(self, at: int) -> None:
         """Checks that a line is supported."""
         text = self.lines[at].text
-        if BRANCH.match(text) and not GO_TO.fullmatch(text):
+        if BRANCH.match(text) and not any(form.fullmatch(text) for form in (GO_TO, CALL, CALL_NAMED)):
             raise self.fail(at, NO_BRANCH)
-        if LOOP.match(text):
-            raise self.fail(at, NO_LOOP)
+        if LOOP.match(text) and not self.can_count(text):
+            raise self.fail(at, NO_COUNTER)
         if term_of(text, at) is None:
             raise self.fail(at, "this line is not supported: see the supported lines in docs/PROVE-YOUR-MODULE.md")
+
+    def can_count(self, text: str) -> bool:
+        """Returns whether ISG or DSE is supported."""
+        return False
 
     def follow(self, made: Point, text: str) -> None:
         """Adds the points after a point."""
@@ -186,6 +295,8 @@ class Walk:
             self.come(made, Term("number", (), text) if NUMBER.fullmatch(text) else state.register(name))
         elif GO_TO.fullmatch(text):
             made.after = [self.point(self.target(at, text), state, made.facts)]
+        elif text.startswith("XEQ"):
+            self.call(made)
         elif TEST.fullmatch(text):
             self.test(made, test_of(text, state))
         elif text in OF_TWO:
@@ -218,18 +329,18 @@ class Walk:
 
     def test(self, made: Point, condition: Condition) -> None:
         """Adds the points after a test: at the next line if it is true, otherwise after it."""
-        made.kind, made.condition = "test", replace(condition, is_true=True)
+        made.kind, made.condition = "test", replace(condition.plain(), is_true=True)
         if condition.relation != "=":
             for side in (condition.left, condition.right):
                 self.need_number(made.at, side)
         after = replace(made.state, lift=True)
         if made.at + 1 >= len(self.lines):
-            raise self.fail(made.at, "this test is the last line: there is no line that it could skip")
+            raise self.fail(made.at, "this test is the last line, so it has no line to skip: add lines after it, for example RTN and RTN")
         if term_of(self.lines[made.at + 1].text, 0) is None:
             self.check(made.at + 1)
         self.last = max(self.last, made.at + 1)
         for place, is_true in ((made.at + 1, condition.is_true), (made.at + 2, not condition.is_true)):
-            fact = Fact(None, replace(condition, is_true=is_true))
+            fact = Fact(None, replace(condition.plain(), is_true=is_true))
             made.after.append(self.point(place, after, (*made.facts, fact)))
 
     def compute(self, made: Point, result: Term) -> None:
@@ -237,14 +348,15 @@ class Walk:
         for one in result.args:
             self.need_number(made.at, one)
         made.result, facts = result, made.facts
-        if result.op not in EXACT and result not in self.required and Fact(result, None) not in facts:
+        if result.op not in EXACT and not self.is_in_range(result, facts):
             made.kind = "outcome"
-            facts = (*facts, Fact(result, None))
+            facts = (*facts, Fact(result.plain()))
             if "OUT OF RANGE" not in self.contract.errors:
-                raise self.fail(made.at, f"the result may be out of range: require `{asked(result)} is in range`, or claim "
-                                         "`or OUT OF RANGE`")
+                raise self.fail(made.at, f"the result may be out of range: add `{asked(result)} is in range` to `requires`, or "
+                                         "`or OUT OF RANGE` to `ensures`")
             if result.op == "/" and "DATA ERROR" not in self.contract.errors:
-                raise self.fail(made.at, f"the divisor may be zero: require `{asked(result)} is in range`, or claim `or DATA ERROR`")
+                raise self.fail(made.at, f"the divisor may be zero: add `{asked(result)} is in range` to `requires`, or `or DATA ERROR` "
+                                         "to `ensures`")
         if result.op == "CHS":
             after = replace(made.state, x=result, lift=True)
         elif len(result.args) == 1:
@@ -253,10 +365,92 @@ class Walk:
             after = made.state.dropped(result)
         made.after = [self.point(made.at + 1, after, facts)]
 
+    def is_in_range(self, result: Term, facts: tuple[Fact, ...]) -> bool:
+        """Returns whether it is known that a result is in range."""
+        return result.plain() in self.required or Fact(result.plain()) in facts
+
+    def call(self, made: Point) -> None:
+        """Adds the point after a subroutine: its registers contain what its claims say."""
+        assert self.called
+        if CALL.fullmatch(self.lines[made.at].text) and not self.is_start:
+            raise self.fail(made.at, NO_START)
+        found = self.calls.get(made.at) or self.called(made.at)
+        self.calls[made.at] = found
+        made.kind = "call"
+        if found.place is not None:
+            self.last = max(self.last, found.place + len(found.program.lines) - 1)
+        self.check_call(made, found.program)
+        state, facts = left_by(found.program, made.state, self.count)
+        made.after = [self.point(made.at + 1, state, (*made.facts, *facts))]
+
+    def check_call(self, made: Point, callee: Program) -> None:
+        """Checks that the requirements of a subroutine are met."""
+        contract, name = callee.contract, callee.shown
+        if callee.is_whole:
+            raise self.fail(made.at, f"{name} has claims about whole numbers or loops, and calls of such a label are not supported: write "
+                                     "the proof by hand, see A theorem of your own in docs/PROVE-YOUR-MODULE.md")
+        if contract.errors:
+            raise self.fail(made.at, f"{name} may stop with {contract.errors[0]}: require there what excludes the error, and remove "
+                                     f"`or {contract.errors[0]}`, because only a subroutine that always returns can be called")
+        if contract.is_lift_on and not made.state.lift:
+            raise self.fail(made.at, f"{name} requires that stack lift is on, which is not known here: remove this requirement, or put a "
+                                     "line before XEQ that turns stack lift on, for example RCL")
+        for register in contract.numbers:
+            term = made.state.register(register)
+            if not self.is_number(term):
+                raise self.fail(made.at, f"{name} requires that {register} is a number, but {register} contains {plain(term.text())}, of "
+                                         "which this is not known")
+        for term in callee.walk.required:
+            here = into(term, made.state)
+            if not self.is_in_range(here, made.facts):
+                raise self.fail(made.at, f"{name} requires that `{asked(term)}` is in range: require here that `{asked(here)}` is in range")
+
+    def is_number(self, term: Term) -> bool:
+        """Returns whether a value is known to be a number."""
+        if term.op == "left":
+            return bool(term.args)
+        return term.op != "old" or term.name in self.contract.numbers
+
     def need_number(self, at: int, term: Term) -> None:
         """Checks that a value is known to be a number."""
+        if term.op == "left" and not term.args:
+            raise self.fail(at, f"{term.text()} may be a text, and then this line stops with ALPHA DATA: add to the claims there which "
+                                "number it is")
         if term.op == "old" and term.name not in self.contract.numbers:
-            raise self.fail(at, f"it is not known that {term.text()} is a number (ALPHA DATA otherwise): require `{term.name} is a number`")
+            raise self.fail(at, f"{term.text()} may be a text, and then this line stops with ALPHA DATA: add `{term.name} is a number` "
+                                "to `requires`")
+
+
+def into(term: Term, state: State) -> Term:
+    """Returns a term of a subroutine's claims, of which the old registers are those of a state."""
+    return state.register(term.name) if term.op == "old" else replace(term, args=tuple(into(one, state) for one in term.args))
+
+
+def left_by(callee: Program, state: State, count: int) -> tuple[State, list[Fact]]:
+    """Returns the state after a subroutine that was called in a state, and what is known of it. The names of what it leaves have a
+    number."""
+    facts: list[Fact] = []
+
+    def left(register: str) -> Term:
+        """Returns what is in a register."""
+        value = next((value for one, value, condition in callee.equations if one.register == register and not condition), None)
+        if value and value.op == "old":
+            return state.register(value.name)
+        found = Term("left", (into(value, state).plain(),) if value else (), f"{register.lower()}_{count}",
+                     f"what {callee.shown} leaves in {register}")
+        facts.append(Fact(left=found))
+        return found
+
+    stack = {place: left(register) for register, place in PLACES.items()}
+    written = tuple((number, left(f"R{number:02}")) for number in callee.written())
+    is_on, switch = True if callee.walk.leaves_lift() else None, f"lift_{count}"
+    return (State(**stack, written=(*state.written, *written), lift=is_on, switch=switch),
+            [*facts, *([] if is_on else [Fact(switch=switch)])])
+
+
+def stack_part(state: State, count: int) -> State:
+    """Returns a state of which only some of the data registers were written."""
+    return replace(state, written=state.written[:count])
 
 
 def asked(term: Term) -> str:
@@ -276,5 +470,5 @@ def value_of(text: str) -> Decimal | None:
 
 def registers_in(lines: list[ProgramLine]) -> list[int]:
     """Returns the data registers that lines name."""
-    found = (REGISTER.fullmatch(line.text) for line in lines)
-    return sorted({int(one[2]) for one in found if one})
+    found = (REGISTER.fullmatch(line.text) or COUNT.fullmatch(line.text) for line in lines)
+    return sorted({int(one[one.re.groups]) for one in found if one})

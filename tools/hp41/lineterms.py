@@ -15,17 +15,24 @@ CHARACTERS = dict(zip("0123456789.E-", ("Zero", "One", "Two", "Three", "Four", "
 NAMED = re.compile(r'LBL "([ !#-\[\]-~]*)"')
 LOCAL = re.compile("LBL (0[0-9]|1[0-4])")
 GO_TO = re.compile("GTO (0[0-9]|1[0-4])")
+CALL = re.compile("XEQ (0[0-9]|1[0-4])")
+CALL_NAMED = re.compile(r'XEQ "([ !#-\[\]-~]*)"')
 REGISTER = re.compile("(RCL|STO) (0[0-9]|1[0-5])")
+COUNT = re.compile("DSE (0[0-9]|1[0-5])")
 NUMBER = re.compile("(?!-$)[-0-9.E]+")
 TEST = re.compile(r"X(?:<|>|<=|=|#)[Y0]\?")
 LABEL = re.compile('LBL ".*"')
+# In the name of a variable, if it is a truth value.
+TRUTH = "backwards_"
 
 
 class ProgramLine(NamedTuple):
-    """A line of a program: its text as the bench prints it, the number of its line in the file, and its bytes."""
+    """A line of a program: its text as the bench prints it, the number of its line in the file, its bytes, and their place in those of the
+    file."""
     text: str
     number: int
     spelled: bytes
+    place: int
 
 
 def characters_of(text: str) -> str:
@@ -46,6 +53,14 @@ def term_of(text: str, index: int) -> str | None:
         return f"lines.Register {function} {int(register[2])}"
     if GO_TO.fullmatch(text):
         return f"lines.ShortGoTo {int(text[4:])} distance_{index}"
+    if CALL.fullmatch(text):
+        return f"lines.BranchTo Execute distance_{index} backwards_{index} {int(text[4:])}"
+    counted = COUNT.fullmatch(text)
+    if counted:
+        return f"lines.WithOperand DecrementSkip (Direct {int(counted[1])})"
+    called = CALL_NAMED.fullmatch(text)
+    if called:
+        return f'lines.Named ExecuteName (codes "{called[1]}")'
     if text in PLAIN:
         return f"lines.Plain functions.{PLAIN[text]}"
     if text == "END":
@@ -54,20 +69,30 @@ def term_of(text: str, index: int) -> str | None:
 
 
 def unknowns_of(text: str, index: int) -> list[str]:
-    """Returns the names of the links and status bits of a line."""
+    """Returns the names of the links, distances and status bits of a line. Each is a number, except whether XEQ leads back."""
     if NAMED.fullmatch(text):
         return [f"link_{index}", f"key_{index}"]
     if GO_TO.fullmatch(text):
         return [f"distance_{index}"]
+    if CALL.fullmatch(text):
+        return [f"distance_{index}", f"backwards_{index}"]
     return [f"link_{index}", f"marks_{index}"] if text == "END" else []
 
 
-def values_of(line: ProgramLine) -> list[int]:
-    """Returns the values of the links and status bits in the bytes of a line."""
+def kinds_of(names: list[str]) -> str:
+    """Returns the links, distances and status bits with their types."""
+    numbers, truths = [one for one in names if TRUTH not in one], [one for one in names if TRUTH in one]
+    return " ".join([*([f"({' '.join(numbers)} : ℕ)"] if numbers else []), *([f"({' '.join(truths)} : Bool)"] if truths else [])])
+
+
+def values_of(line: ProgramLine) -> list[int | str]:
+    """Returns the values of the links, distances and status bits in the bytes of a line."""
     data = line.spelled
     if not unknowns_of(line.text, 0):
         return []
     if GO_TO.fullmatch(line.text):
         return [data[1]]
+    if CALL.fullmatch(line.text):
+        return [(data[0] - 0xE0) * 256 + data[1], "true" if data[2] >= 0x80 else "false"]
     link = (data[0] - 0xC0) * 256 + data[1]
     return [link, data[2] // 64 * 32 + data[2] % 32 if line.text == "END" else data[3]]

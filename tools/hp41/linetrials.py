@@ -7,7 +7,7 @@ from decimal import ROUND_HALF_UP, Context, Decimal
 from typing import NamedTuple
 
 from .decks import Failure, block, ended, hexadecimal, run
-from .lineclaims import Condition, Equation, Term
+from .lineclaims import Condition, Equation, Relation, Term
 from .linesteps import value_of
 from .linetheorems import Program
 from .settings import STACK, digits_of
@@ -18,10 +18,13 @@ TRIALS, LIMIT, SEED, PAGE, SIZE, MEMORY = 60, 100_000, 41, "F", 16, 320
 DRAWS = 4_000
 EXACT = Context(prec=10, rounding=ROUND_HALF_UP, Emax=999_999, Emin=-999_999, traps=[])
 MOST, LEAST = 99, -99
+WHOLE = ("0", "0", "1", "1", "2", "100", "1000", "9999999999")
 FEW = ("0", "1", "-1", "2", "3", "10", "0.5", "-2.5", "9999999999", "1E-99", "9.999999999E99", "-9.999999999E99", "123456.789", "7")
 TEXT = "10000000004142"
 # The name under which a state says that stack lift is off. Then X is 0, because CLX has turned it off.
 OFF = "off"
+# The name of the label that is put before a local label.
+TRIED = "TRYING"
 SIZES = Sizes(MEMORY, SIZE)
 
 
@@ -74,6 +77,8 @@ def amount_in(term: Term, before: dict[str, str]) -> Decimal:
         if found is None:
             raise NoValue("ALPHA DATA")
         return found
+    if term.op == "left" and term.args:
+        return amount_in(term.args[0], before)
     if term.op in ("number", "zero"):
         return value_of(term.name or "0") or Decimal(0)
     values = [amount_in(one, before) for one in term.args]
@@ -93,14 +98,36 @@ def is_true(condition: Condition, before: dict[str, str]) -> bool:
     return (left < right if condition.relation == "<" else left <= right) == condition.is_true
 
 
+def is_related(one: Relation, before: dict[str, str]) -> bool:
+    """Returns whether a comparison of whole numbers is true before the program. Their sums are not rounded."""
+    left, right = exact_in(one.left, before), exact_in(one.right, before)
+    return {"=": left == right, "<>": left != right, "<": left < right, "<=": left <= right, ">": left > right,
+            ">=": left >= right}[one.relation]
+
+
+def exact_in(term: Term, before: dict[str, str]) -> Decimal:
+    """Returns the number of a sum of whole numbers, which is not rounded."""
+    if term.op not in ("+", "-", "*"):
+        return amount_in(term, before)
+    left, right = (exact_in(one, before) for one in term.args)
+    return left + right if term.op == "+" else left - right if term.op == "-" else left * right
+
+
 class LineTrials:
     """Trials of a program: states that meet the requirements, and what the bench does from them."""
 
     def __init__(self, program: Program, data: bytes) -> None:
         """Takes a program and the bytes of its file."""
-        self.program, self.data, self.random = program, data, random.Random(SEED)
-        names = {part.name for _, value, _ in program.equations for part in value.parts() if part.op == "old"}
-        self.names = sorted({*STACK, *names, *(f"R{number:02}" for number in program.used), *program.contract.numbers})
+        self.program, self.random = program, random.Random(SEED)
+        # A local label is called by a label with a name before it.
+        self.label = TRIED if program.shown != program.label else program.label
+        first = program.lines[0].place
+        named = bytes([0xC0, 0, 0xF1 + len(TRIED), 0]) + TRIED.encode() if self.label == TRIED else b""
+        self.data = data[:first] + named + data[first:]
+        contract = program.contract
+        terms = [*(value for _, value, _ in program.equations), *(side for one in contract.relations for side in (one.left, one.right))]
+        names = {part.name for term in terms for part in term.parts() if part.op == "old"}
+        self.names = sorted({*STACK, *names, *(f"R{number:02}" for number in program.used), *contract.numbers, *contract.wholes})
 
     def draw(self) -> dict[str, str]:
         """Returns a state that may not meet the requirements."""
@@ -108,11 +135,13 @@ class LineTrials:
         for name in self.names:
             other = f"{self.random.randint(-10**6, 10**6)}E{self.random.randint(-9, 3)}"
             text = self.random.choice(FEW) if self.random.random() < 0.6 else other
-            is_text = name not in self.program.contract.numbers and self.random.random() < 0.2
+            if name in self.program.contract.wholes:
+                text = self.random.choice(WHOLE) if self.random.random() < 0.2 else str(self.random.randint(0, 40))
+            is_text = name not in (*self.program.contract.numbers, *self.program.contract.wholes) and self.random.random() < 0.2
             found[name] = TEXT if is_text else digits_of(text) or "0" * 14
-        if self.random.random() < 0.2:
+        if self.random.random() < 0.2 and not self.program.contract.wholes:
             found["Y"] = found["X"]
-        if not self.program.contract.is_lift_on and self.random.random() < 0.25:
+        if not self.program.contract.is_lift_on and "X" not in self.program.contract.wholes and self.random.random() < 0.25:
             found.update({"X": "0" * 14, OFF: ""})
         return found
 
@@ -121,9 +150,9 @@ class LineTrials:
         try:
             for term in self.program.walk.required:
                 amount_in(term, state)
+            return all(is_related(one, state) for one in self.program.contract.relations)
         except NoValue:
             return False
-        return True
 
     def states(self) -> list[dict[str, str]]:
         """Returns states that meet the requirements."""
@@ -141,7 +170,7 @@ class LineTrials:
     def outcomes(self, states: list[dict[str, str]]) -> list[Outcome]:
         """Returns what the program leaves from some states."""
         views = "".join(f"show ram {self.address(name):03x}\n" for name in self.names)
-        called = [f'XEQ "{self.program.label}"'.encode(), b"STOP"]
+        called = [f'XEQ "{self.label}"'.encode(), b"STOP"]
         deck = b""
         for state in states:
             driver = [b"CLX", *called] if OFF in state else called
@@ -179,7 +208,10 @@ class LineTrials:
         """Returns the claims that are false after a run."""
         contract = self.program.contract
         before = ", ".join(f"{name}={text_of(state[name])}" for name in self.names) + (" with stack lift off" if OFF in state else "")
-        if outcome.error and outcome.error not in contract.errors or not outcome.has_ended and not outcome.error:
+        is_late = not outcome.has_ended and not outcome.error
+        if is_late and not outcome.refusal and self.most(state) > LIMIT:
+            return []
+        if outcome.error and outcome.error not in contract.errors or is_late:
             late = f"it is refused: {outcome.refusal}" if outcome.refusal else f"it has not returned after {LIMIT:,} lines"
             why = f"it stops with {outcome.error}" if outcome.error else late
             return [FalseClaim(contract.line, "returns", f"from {before} {why}")]
@@ -187,6 +219,11 @@ class LineTrials:
             return []
         return [FalseClaim(one.line, one.text, f"from {before} {why}") for one, value, condition in self.program.equations
                 for why in self.difference(one, value, condition, state, outcome)]
+
+    def most(self, state: dict[str, str]) -> Decimal:
+        """Returns the number of lines that suffice from a state, by what the claims about loops say."""
+        entries = self.program.walk.start.entries()
+        return self.program.most.constant + sum((loop.round() * exact_in(term, state) for _, loop, _, term in entries), Decimal(0))
 
     @staticmethod
     def difference(one: Equation, value: Term, condition: Condition | None, state: dict[str, str], outcome: Outcome) -> list[str]:

@@ -46,7 +46,7 @@ use Rattle.h41_reasoning_lines.proofs.Stepping.{returned, test_false, test_true}
 use Rattle.h41_reasoning_lines.proofs.Wholes.{whole_ten}
 use Rattle.h41_proved_lines.specs.Bisection.{Contains, HalvesBracket, HasHalved, IsBracket, IsMiddle, IsSquare, half_body, half_lines}
 use Rattle.h41_proved_lines.proofs.AbsoluteDifference.{register_of}
-use Rattle.h41_proved_lines.proofs.Scales.{scaled}
+use Rattle.h41_reasoning_lines.proofs.Scales.{scaled}
 
 by_below : {P : Type 0} (a b : ℤ) → (int_lt a b ≡ true → a <ℤ b → P) → (int_lt a b ≡ false → b ≤ℤ a → P) → P
 by_below {P} a b less most = by (int_lt a b) refl

@@ -46,7 +46,7 @@ use Rattle.h41_proved_lines.specs.BisectionLoop.{BisectionReturns, Halvings, Has
 use Rattle.h41_proved_lines.proofs.AbsoluteDifference.{register_of}
 use Rattle.h41_proved_lines.proofs.Bisection.{halves_bracket}
 use Rattle.h41_proved_lines.proofs.Bounds.{Keeps, keeps_all, keeps_data, keeps_memory, keeps_on, keeps_stack}
-use Rattle.h41_proved_lines.proofs.Counters.{number_down_whole, tested_down_whole}
+use Rattle.h41_reasoning_lines.proofs.Counters.{number_down_whole, tested_down_whole}
 use Rattle.h41_proved_lines.proofs.HalvingRange.{middle_there, square_there}
 
 -- A bracket in one memory is one in another if R00, R01 and R02 contain the same.

@@ -45,7 +45,7 @@ use Rattle.h41_reasoning_lines.proofs.Stacks.{same_program, still}
 use Rattle.h41_reasoning_lines.proofs.Stepping.{after_line, before_line, by_state, ended, entered, global_label, go_to, label, of_two}
 use Rattle.h41_proved_lines.specs.SumOfRegisters.{AddsUp, HasNumber, HasSum, SumReturns, sum_body, sum_lines, y_parameter}
 use Rattle.h41_proved_lines.proofs.AbsoluteDifference.{register_of}
-use Rattle.h41_proved_lines.proofs.Counters.{continues, counter, counter_ten, ends, number_is, whole_is}
+use Rattle.h41_reasoning_lines.proofs.Counters.{continues, counter, counter_ten, ends, number_is, whole_is}
 
 module _ (itself : DecimalIsItsNearest) (registers : DecimalHasOneRegister) (lists : OneList)
     (pages : PageMap) (stack : Stack) (memory : RegisterMap) (at : ℕ) (returns : List Position)

@@ -30,8 +30,8 @@ bisect_body link key distance =
 abbrev pub bisect_lines : (link key distance : ℕ) → Line → List Line
 bisect_lines link key distance end = bisect_body link key distance ++ end ∷ []
 
--- The greatest size of the bounds of a bracket, 10^49. The square of each number that is not above
--- it is in range.
+-- The greatest absolute value of the bounds of a bracket, 10^49. The square of each number whose
+-- absolute value is not above it is in range.
 abbrev pub greatest_bound : ℕ
 greatest_bound = 10 ^ 49 * one
 
@@ -66,10 +66,10 @@ pub record HasBisected (s : Machine) (rounds : ℕ) (number low high : ℤ) (lef
   pub only : KeepsOthers s.memory left.machine.memory
 
 -- Memory is sound, the calculator is at the first line of the program, and XEQ "HALF" finds the
--- program HALF. R01 and R02 are a bracket for the root of the number in R00, and their sizes are at
--- most 10^49. R03 contains a whole number of rounds, from 1 to ten digits. There is room for the
--- return address of XEQ. Then the program returns after at most 18 lines for each round and one
--- more, and the bracket is halved as many times.
+-- program HALF. R01 and R02 are a bracket for the root of the number in R00, and their absolute
+-- values are at most 10^49. R03 contains a whole number of rounds, from 1 to ten digits. There is
+-- room for the return address of XEQ. Then the program returns after at most 18 lines for each
+-- round and one more, and the bracket is halved as many times.
 abbrev pub BisectionReturns : Type 0
 BisectionReturns =
     (pages : PageMap) (s : Machine) (registers at link key distance : ℕ) (end : Line)

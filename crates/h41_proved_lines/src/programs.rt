@@ -82,8 +82,8 @@ pub fn bisection_keeps_bracket()
 }
 
 /// States that the program `BISECT`, which calls `HALF` as many times as R03 counts, keeps the bracket: from every state in
-/// which R01 and R02 are a bracket for the square root of the number in R00, with bounds of at most 10^49 in size, and R03
-/// contains a number n of rounds, it returns after at most 18 n + 1 lines, and the bracket is halved n times.
+/// which R01 and R02 are a bracket for the square root of the number in R00, with bounds whose absolute values are at most
+/// 10^49, and R03 contains a number n of rounds, it returns after at most 18 n + 1 lines, and the bracket is halved n times.
 pub fn bisection_returns()
     ensures { BisectionReturns }
 {

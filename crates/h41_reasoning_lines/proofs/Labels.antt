@@ -13,7 +13,7 @@ use Rattle.h41_program.specs.ProgramLaws.{ReadIsDetermined}
 use Rattle.h41_program.specs.ProgramLines.{LinesFrom, Reads, behind}
 use Rattle.h41_program.specs.Searches.{AnswersLocal, end_before, label_in, position_of, start_in}
 use Rattle.h41_program.specs.declared.listed_line.ListedLine.{ListedLine}
-use Rattle.h41_program.proofs.SearchSteps.{label_in-here, label_in-other, none_or, some_or}
+use Rattle.h41_program.proofs.SearchSteps.{label_in-end, label_in-here, label_in-other, none_or, some_or}
 use Rattle.h41_ram.specs.RegisterMap.{RegisterMap, is_sound}
 use Rattle.h41_reasoning_lines.proofs.Listed.{BeginsAt, IsListed, lines_from, rest_read}
 
@@ -217,6 +217,13 @@ module _ (memory : RegisterMap) (sound : is_sound memory ≡ true) where
       ap (λ (lines : List ListedLine). position_of (label_in n lines)) here.is_list
       ∙ ap position_of
       (label_in-other n here.first here.rest (ap is_end here.is ∙ other) (ap (is_label n) here.is ∙ no_label))
+
+  -- A search ends at END.
+  pub label_at_end : (at n : ℕ) (listed : List ListedLine) (line : Line) (here : IsListed memory at listed line) → is_end line ≡ true
+      → position_of (label_in n listed) ≡ None
+  label_at_end at n listed line here is =
+      ap (λ (lines : List ListedLine). position_of (label_in n lines)) here.is_list
+      ∙ ap position_of (label_in-end n here.first here.rest (ap is_end here.is ∙ is))
 
   -- The next line after a line begins at the next position.
   pub position_next : (at : ℕ) (listed : List ListedLine) (line : Line) (here : IsListed memory at listed line) (other : Line)

@@ -5,7 +5,10 @@ pub mod Stepping
 pub mod Subroutines
 pub mod Computing
 pub mod Ranges
+pub mod Scales
 pub mod Wholes
+pub mod WholeSteps
+pub mod Counters
 pub mod Labels
 pub mod Programs
 pub mod Loads
@@ -14,4 +17,6 @@ pub mod DataRegisters
 pub mod ProgramStates
 pub mod ProgramSteps
 pub mod Errors
+pub mod Calls
+pub mod Counting
 pub mod SignedDecimals

@@ -230,6 +230,7 @@ pub record Back (pages : PageMap) (s : Machine) : Type 0 where
   pub step : StepsLine pages None s (Ok left)
   pub returned : HasReturned s left
   pub memory : left.machine.memory ≡ s.memory
+  pub lift : left.machine.focal.lift ≡ s.focal.lift
 
 abbrev returning : rows.LineRow
 returning = record rows.silent_row { goes = rows.Returns }
@@ -262,6 +263,7 @@ module _ (pages : PageMap) (lists : OneList) (memory : RegisterMap) (at next : �
             subst (λ (list : List Position). ReturnsTo list (record { machine = at_halt start there; answer = Stopped })) (sym are)
             (refl, refl, refl);
         memory = refl;
+        lift = refl;
       }
   back_by steps (latest ∷ others) are =
       let left : Left = record { machine = at_line latest (with_returns (reverse others) there); answer = Done } in
@@ -279,6 +281,7 @@ module _ (pages : PageMap) (lists : OneList) (memory : RegisterMap) (at next : �
             );
         returned = subst (λ (list : List Position). ReturnsTo list left) (sym are) (refl, refl, refl, refl);
         memory = refl;
+        lift = refl;
       }
 
   pub returned : IsLineAt memory at (Plain functions.Return) next → Back pages there

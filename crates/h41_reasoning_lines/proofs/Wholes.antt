@@ -138,7 +138,7 @@ module _ (itself : DecimalIsItsNearest) (injective : UnitsAreInjective) (a b quo
 zeros_number : holding_of zeros ≡ Number (pos 0)
 zeros_number = refl
 
-zeros_register : IsRegister 14 zeros
+pub zeros_register : IsRegister 14 zeros
 zeros_register = record { size = refl; each = All-replicate (λ digit. digit < 16) 14 0 (omega arith) }
 
 number_of_units : (a b : ℤ) → Number a ≡ Number b → a ≡ b

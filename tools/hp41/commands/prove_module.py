@@ -23,9 +23,9 @@ FILE.txt is the listing of a keystroke program, with claims in the comments befo
     RTN
 FILE.raw has the bytes of a program. Its claims are in CLAIMS.txt: after the comments, a line there names the label.
 
-docs/PROVE-YOUR-MODULE.md explains the language of claims, and what a theorem says. First the bench calls each function from some
-states, to find states from which a claim is false. If there are none, the prover of the Rattle kit proves the claims. For each
-function and for each claim that is false or not proved, a line on standard output begins with FILE:LINE.
+docs/PROVE-YOUR-MODULE.md explains the language of claims, and what a theorem says. First the bench calls each function or program from
+some states, to find states from which a claim is false. If there are none, the prover of the Rattle kit proves the claims. For each
+function or program, and for each claim that is false or not proved, a line on standard output begins with FILE:LINE.
 
   --page P             the page of the source, 4 to F. The default is 8. A project has its pages in its file
   --try                tries the claims on the bench, and proves nothing

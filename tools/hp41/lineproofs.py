@@ -19,7 +19,7 @@ class ProgramProof:
     def __init__(self, program: Program) -> None:
         """Writes the statements of all points."""
         self.program = program
-        # The contents of registers that subroutines have left, where they are not variables.
+        # The contents of registers that subroutines have left and that are no variables.
         self.bound: dict[str, str] = {}
         self.parts: list[str] = []
         self.rows: list[tuple[str, int, str]] = []

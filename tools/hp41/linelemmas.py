@@ -8,8 +8,8 @@ LAW_TYPES = ("DecimalIsItsNearest → DecimalHasOneRegister → RegisterHoldsDec
              "QuotientHasOneNearest → ReadIsDetermined")
 
 # For each function its row, the lemma of its result, and the lemma of a result that is out of range.
-TWO = {"+": ("values.Sum Y X", "added", "sum_is_out"), "-": ("values.Difference Y X", "subtracted", "difference_is_out"),
-       "*": ("values.Product Y X", "multiplied", "product_is_out"), "/": ("values.Quotient Y X", "divided", "quotient_is_out")}
+TWO = {"+": ("OfTwo twos.Sum Y X", "added", "sum_is_out"), "-": ("OfTwo twos.Difference Y X", "subtracted", "difference_is_out"),
+       "*": ("OfTwo twos.Product Y X", "multiplied", "product_is_out"), "/": ("OfTwo twos.Quotient Y X", "divided", "quotient_is_out")}
 SIMPLE = {"ENTER^": "enters", "X<>Y": "exchanges", "RDN": "rolls_down", "R^": "rolls_up"}
 
 # For each test its condition, and the lemmas that its registers contain numbers and what it compares.
@@ -39,8 +39,9 @@ use Rattle.h41_program.specs.declared.listed_line.ListedLine.{ListedLine}
 use Rattle.h41_ram.specs.RegisterMap.{RegisterMap}
 use Rattle.h41_rows.specs.Places.{X, Y}
 use Rattle.h41_rows.specs.Rows as rows
-use Rattle.h41_rows.specs.Values.{IsRegisterOf}
-use Rattle.h41_rows.specs.Values as values
+use Rattle.h41_rows.specs.Values.{IsRegisterOf, OfOne, OfTwo}
+use Rattle.h41_rows.specs.declared.values.ValueOfOne.TheVariants as ones
+use Rattle.h41_rows.specs.declared.values.ValueOfTwo.TheVariants as twos
 use Rattle.h41_reasoning_lines.specs.ProgramStates.{with_content}
 use Rattle.h41_reasoning_lines.proofs.Computing.{added, comparable, comparable_turned, comparable_x, divided, made_absolute, made_negative}
 use Rattle.h41_reasoning_lines.proofs.Computing.{multiplied, number_there, squared, subtracted, tells_above, tells_at_most, tells_below}

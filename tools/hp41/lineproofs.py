@@ -209,7 +209,7 @@ class ProgramProof:
         """Returns the proof that a function stops the program with an error."""
         term, state = point.result, point.state
         assert term
-        row = f"(rows.of_y_and_x ({TWO[term.op][0]}))" if term.op in TWO else "(rows.of_x (values.Product X X))"
+        row = f"(rows.of_y_and_x ({TWO[term.op][0]}))" if term.op in TWO else "(rows.of_x (OfTwo twos.Product X X))"
         known = f"{self.stack(state)} memory {' '.join(map(self.program.amount, term.args))} {' '.join(map(self.holds, term.args))}"
         clear = f"(clear_there {self.common(point)} range_ignore clear_24)"
         errors = self.program.contract.errors
@@ -256,10 +256,10 @@ class ProgramProof:
             return f"changes_sign {common} {lift} {result}.0 {stands} (made_negative {known} {decimal} {result}.0 {result}.1 " \
                    f"{self.signed(term)}.2)"
         if term.op == "ABS":
-            return f"works_on_one {common} {lift} functions.AbsoluteValue (values.AbsoluteValue X) {result}.0 refl {stands} " \
+            return f"works_on_one {common} {lift} functions.AbsoluteValue (OfOne ones.AbsoluteValue X) {result}.0 refl {stands} " \
                    f"(made_absolute {known} {decimal} {result}.0 {result}.1 {self.signed(term)}.2)"
         if term.op == "X^2":
-            return f"works_on_one {common} {lift} functions.Square (values.Product X X) {result}.0 refl {stands} " \
+            return f"works_on_one {common} {lift} functions.Square (OfTwo twos.Product X X) {result}.0 refl {stands} " \
                    f"(squared {known} {decimal} {result}.0 {result}.1 is_{decimal})"
         value, lemma, _ = TWO[term.op]
         return f"works_on_two {common} {lift} functions.{PLAIN[term.op]} ({value}) {result}.0 refl {stands} " \

@@ -13,8 +13,9 @@ use Rattle.h41_ram.specs.RegisterMap.{RegisterMap}
 use Rattle.h41_rows.specs.Places.{X, Y, amount_in, are_numbers}
 use Rattle.h41_rows.specs.RowEffects.{holds_in}
 use Rattle.h41_rows.specs.Rows.{AtMost, Below, In, Nought, compute, lifting_row, of_x, of_y_and_x}
-use Rattle.h41_rows.specs.Values.{IsRegisterOf}
-use Rattle.h41_rows.specs.Values as values
+use Rattle.h41_rows.specs.Values.{IsRegisterOf, OfOne, OfTwo}
+use Rattle.h41_rows.specs.declared.values.ValueOfOne.TheVariants as ones
+use Rattle.h41_rows.specs.declared.values.ValueOfTwo.TheVariants as twos
 use Rattle.h41_reasoning_lines.specs.Stacks.{Stack, with_stack}
 use Rattle.h41_reasoning_lines.proofs.Stepping.{holding_true}
 
@@ -52,7 +53,7 @@ module _ (stack : Stack) (memory : RegisterMap) (y x : ℤ) (in_y : holding_of s
       both (is_some (number_in stack.y)) (is_some (number_in stack.x)) (there (number_in stack.y) y (number_there stack.y y in_y))
       (there (number_in stack.x) x (number_there stack.x x in_x))
 
-  pub added : Nearest (y +ℤ x) 1 (Ok answer) → Works here 0 (of_y_and_x (values.Sum Y X)) (Ok result)
+  pub added : Nearest (y +ℤ x) 1 (Ok answer) → Works here 0 (of_y_and_x (OfTwo twos.Sum Y X)) (Ok result)
   added nearest =
       holding_true (is_some (number_in stack.y) && (is_some (number_in stack.x) && true)) _ _ numbers
       record {
@@ -63,7 +64,7 @@ module _ (stack : Stack) (memory : RegisterMap) (y x : ℤ) (in_y : holding_of s
         kept = is;
       }
 
-  pub subtracted : Nearest (y -ℤ x) 1 (Ok answer) → Works here 0 (of_y_and_x (values.Difference Y X)) (Ok result)
+  pub subtracted : Nearest (y -ℤ x) 1 (Ok answer) → Works here 0 (of_y_and_x (OfTwo twos.Difference Y X)) (Ok result)
   subtracted nearest =
       holding_true (is_some (number_in stack.y) && (is_some (number_in stack.x) && true)) _ _ numbers
       record {
@@ -74,7 +75,7 @@ module _ (stack : Stack) (memory : RegisterMap) (y x : ℤ) (in_y : holding_of s
         kept = is;
       }
 
-  pub multiplied : Nearest (y *ℤ x) one (Ok answer) → Works here 0 (of_y_and_x (values.Product Y X)) (Ok result)
+  pub multiplied : Nearest (y *ℤ x) one (Ok answer) → Works here 0 (of_y_and_x (OfTwo twos.Product Y X)) (Ok result)
   multiplied nearest =
       holding_true (is_some (number_in stack.y) && (is_some (number_in stack.x) && true)) _ _ numbers
       record {
@@ -85,7 +86,7 @@ module _ (stack : Stack) (memory : RegisterMap) (y x : ℤ) (in_y : holding_of s
         kept = is;
       }
 
-  pub divided : NearestQuotient y x (Ok answer) → Works here 0 (of_y_and_x (values.Quotient Y X)) (Ok result)
+  pub divided : NearestQuotient y x (Ok answer) → Works here 0 (of_y_and_x (OfTwo twos.Quotient Y X)) (Ok result)
   divided nearest =
       holding_true (is_some (number_in stack.y) && (is_some (number_in stack.x) && true)) _ _ numbers
       record {
@@ -97,7 +98,7 @@ module _ (stack : Stack) (memory : RegisterMap) (y x : ℤ) (in_y : holding_of s
       }
 
   pub reduced : (a b : Ten) → units a ≡ y → units b ≡ x → NearestModulo a b (Ok answer)
-      → Works here 0 (of_y_and_x (values.Remainder Y X)) (Ok result)
+      → Works here 0 (of_y_and_x (OfTwo twos.Remainder Y X)) (Ok result)
   reduced a b a_is b_is nearest =
       holding_true (is_some (number_in stack.y) && (is_some (number_in stack.x) && true)) _ _ numbers
       record { answer = Ok answer; nearest = (a, b, a_is ∙ sym y_is, b_is ∙ sym x_is, nearest); kept = is }
@@ -109,7 +110,7 @@ module _ (stack : Stack) (memory : RegisterMap) (x : ℤ) (in_x : holding_of sta
   only_x = both true (is_some (number_in stack.x)) refl (there (number_in stack.x) x (number_there stack.x x in_x))
 
   -- X^2.
-  pub squared : Nearest (x *ℤ x) one (Ok answer) → Works (with_stack stack memory) 0 (of_x (values.Product X X)) (Ok result)
+  pub squared : Nearest (x *ℤ x) one (Ok answer) → Works (with_stack stack memory) 0 (of_x (OfTwo twos.Product X X)) (Ok result)
   squared nearest =
       holding_true (is_some (number_in stack.x) && (is_some (number_in stack.x) && true)) _ _
       (both (is_some (number_in stack.x)) (is_some (number_in stack.x)) (there (number_in stack.x) x (number_there stack.x x in_x))
@@ -121,7 +122,7 @@ module _ (stack : Stack) (memory : RegisterMap) (x : ℤ) (in_x : holding_of sta
       }
 
   pub made_absolute : Nearest (pos (unsigned_abs x)) 1 (Ok answer)
-      → Works (with_stack stack memory) 0 (of_x (values.AbsoluteValue X)) (Ok result)
+      → Works (with_stack stack memory) 0 (of_x (OfOne ones.AbsoluteValue X)) (Ok result)
   made_absolute nearest =
       holding_true (is_some (number_in stack.x) && true) _ _ only_x
       record {
@@ -133,7 +134,7 @@ module _ (stack : Stack) (memory : RegisterMap) (x : ℤ) (in_x : holding_of sta
 
   -- CHS.
   pub made_negative : Nearest (neg_ℤ x) 1 (Ok answer)
-      → Works (with_stack stack memory) 0 (record lifting_row { value = Some (values.Negative X); takes = compute X ∷ [] }) (Ok result)
+      → Works (with_stack stack memory) 0 (record lifting_row { value = Some (OfOne ones.Negative X); takes = compute X ∷ [] }) (Ok result)
   made_negative nearest =
       holding_true (is_some (number_in stack.x) && true) _ _ only_x
       record {

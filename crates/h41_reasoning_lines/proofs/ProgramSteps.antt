@@ -28,9 +28,9 @@ use Rattle.h41_rows.specs.Operands.{data_register}
 use Rattle.h41_rows.specs.Places.{X, are_numbers}
 use Rattle.h41_rows.specs.RowEffects.{holds_in}
 use Rattle.h41_rows.specs.Rows as rows
-use Rattle.h41_rows.specs.Values.{IsRegisterOf, Value}
-use Rattle.h41_rows.specs.Values as values
+use Rattle.h41_rows.specs.Values.{IsRegisterOf, OfOne, Value}
 use Rattle.h41_rows.specs.declared.fault.LineFault.{LineFault}
+use Rattle.h41_rows.specs.declared.values.ValueOfOne.TheVariants as ones
 use Rattle.h41_reasoning_lines.specs.LineRuns.{Continues}
 use Rattle.h41_reasoning_lines.specs.ProgramStates.{HasBecome, with_content}
 use Rattle.h41_reasoning_lines.specs.Stacks.{Stack, with_stack}
@@ -222,12 +222,12 @@ module _ (pages : PageMap) (old : RegisterMap) (sixteen : length old.status ≡ 
 
     -- CHS, which leaves LAST X unchanged, and CLX, which turns stack lift off.
     pub changes_sign : (result : List ℕ) → IsLineAt old at (lines.Plain functions.ChangeSign) next
-        → Works same 0 (record rows.lifting_row { value = Some (values.Negative X); takes = rows.compute X ∷ [] }) (Ok result)
+        → Works same 0 (record rows.lifting_row { value = Some (OfOne ones.Negative X); takes = rows.compute X ∷ [] }) (Ok result)
         → Reaches pages old (before lift) (record stack { x = result }) contents next returns true
     changes_sign result line works =
         by_stack lift (record stack { x = result }) next true
         (plain pages same at next zero returns lift functions.ChangeSign
-        (record rows.lifting_row { value = Some (values.Negative X); takes = rows.compute X ∷ [] }) _ refl (there _ at next line)
+        (record rows.lifting_row { value = Some (OfOne ones.Negative X); takes = rows.compute X ∷ [] }) _ refl (there _ at next line)
         (Ok result, works, (Arrives (Memory next) returns, refl, refl)))
 
     pub clears_x : (register : List ℕ) → IsRegisterOf (pos 0) register → IsLineAt old at (lines.Plain functions.ClearX) next

@@ -18,8 +18,9 @@ USED = ("h41_digits", "h41_lines", "h41_fields", "h41_arith", "h41_words", "h41_
         "h41_nut", "h41_laws_words", "h41_reasoning")
 # The same for theorems about programs, with the crates that these use.
 USED_BY_PROGRAMS = ("h41_digits", "h41_lines", "h41_fields", "h41_arith", "h41_words", "h41_dis", "h41_asm", "h41_ends", "h41_codes",
-                    "h41_text", "h41_keys", "h41_decimal", "h41_ram", "h41_show", "h41_pages", "h41_nut", "h41_program", "h41_labels",
-                    "h41_positions", "h41_numbers", "h41_plain_numbers", "h41_rows", "h41_focal", "h41_laws_words", "h41_reasoning_lines")
+                    "h41_text", "h41_keys", "h41_decimal", "h41_ram", "h41_show", "h41_pages", "h41_nut", "h41_program", "h41_walk",
+                    "h41_labels", "h41_positions", "h41_numbers", "h41_plain_numbers", "h41_rows", "h41_focal", "h41_laws_words",
+                    "h41_reasoning_lines")
 ERROR = re.compile(r"\./(proofs/\S+|specs/\S+):(\d+):\d+: error: (.*)")
 OF_FUNCTION = re.compile(rf"fn {CRATE}::functions::of_(\w+): (.*)")
 PROVED = "logic=proved "

@@ -19,7 +19,7 @@ use Rattle.h41_program.specs.Searches.{AnswersLocal, AnswersProgram, end_in, lab
 use Rattle.h41_program.specs.declared.listed_line.ListedLine.{ListedLine}
 use Rattle.h41_program.specs.declared.refusal.ProgramRefusal.TheVariants.{BrokenProgram}
 use Rattle.h41_laws_words.proofs.Answering.{Has}
-use Rattle.h41_laws_calculator.proofs.Begun.{start_some}
+use Rattle.h41_positions.proofs.Begun.{start_some}
 use Rattle.h41_laws_calculator.specs.ProgramAnswers.{PositionHasOne}
 
 -- If there is an answer and there are not two, there is exactly one.

@@ -10,12 +10,14 @@ ghost use Rattle.h41_positions.specs.declared.position.Position.TheVariants.{Mem
 ghost use Rattle.h41_positions.specs.private.PagePlaces.{InPageAndNext};
 ghost use Rattle.h41_ram.specs.RegisterMap.{is_sound};
 
+use crate::page_code::PageCode;
 use crate::position::{PlacedLine, Position};
-use crate::{page_lines, page_programs};
 use h41_codes::{Line, Parameter, ShortLine};
 use h41_pages::{PAGE_WORDS, Pages};
 use h41_program::ProgramRefusal;
+use h41_program::laws::{each_is_listed, lists_are_determined};
 use h41_ram::Ram;
+use h41_walk::Programs;
 
 /// The number of words in a page, 4096.
 const WORDS: u16 = PAGE_WORDS as u16;
@@ -93,7 +95,7 @@ pub fn line_in_page(pages: &Pages, address: u16) -> Result<PlacedLine, ProgramRe
     ensures { LineInPage pages.now address result }
 {
     let (page, offset) = place_of(address);
-    match page_lines::line_at(pages.code(page), offset) {
+    match h41_walk::line_at(&PageCode::of(pages, page), offset) {
         Ok(listed) => Ok(PlacedLine {
             position: in_page(page, listed.position),
             line: listed.line,
@@ -121,7 +123,7 @@ pub fn next<const REGS: usize>(
         },
         Position::Page(address) => {
             let (page, offset) = place_of(address);
-            match page_lines::next(pages.code(page), offset) {
+            match h41_walk::next(&PageCode::of(pages, page), offset) {
                 Ok(behind) => Ok(in_page(page, behind)),
                 Err(refusal) => Err(refusal),
             }
@@ -156,7 +158,7 @@ fn in_page_and_next(pages: &Pages, address: u16) -> Result<(Line, Position), Pro
     ensures { InPageAndNext pages.now address result }
 {
     let (page, offset) = place_of(address);
-    match page_lines::line_and_next(pages.code(page), offset) {
+    match h41_walk::line_and_next(&PageCode::of(pages, page), offset) {
         Ok((line, behind)) => Ok((line, in_page(page, behind))),
         Err(refusal) => Err(refusal),
     }
@@ -196,11 +198,7 @@ pub fn start_of<const REGS: usize>(ram: &Ram<REGS>, pages: &Pages, at: Position)
         Position::Memory(at) => Position::Memory(h41_program::start_of(ram, at)),
         Position::Page(address) => {
             let (page, offset) = place_of(address);
-            let begins = pages.keystroke_offsets(page);
-            in_page(
-                page,
-                page_programs::start_of(pages.code(page), begins.as_slice(), offset),
-            )
+            in_page(page, PageCode::of(pages, page).start_of(offset))
         }
     }
 }
@@ -217,12 +215,13 @@ pub fn local<const REGS: usize>(
     requires { IsTrue (is_sound ram.now.registers) }
     ensures { LocalFrom label pages.now ram.now.registers at result }
 {
+    each_is_listed();
+    lists_are_determined();
     match at {
         Position::Memory(at) => byte_found(h41_program::local(ram, at, label)),
         Position::Page(address) => {
             let (page, offset) = place_of(address);
-            let begins = pages.keystroke_offsets(page);
-            let found = page_programs::local(pages.code(page), begins.as_slice(), offset, label);
+            let found = h41_walk::local(&PageCode::of(pages, page), offset, label);
             offset_found(page, found)
         }
     }
@@ -239,8 +238,7 @@ pub fn end_of<const REGS: usize>(ram: &Ram<REGS>, pages: &Pages, at: Position) -
         Position::Memory(at) => byte_found(h41_program::end_of(ram, at)),
         Position::Page(address) => {
             let (page, offset) = place_of(address);
-            let begins = pages.keystroke_offsets(page);
-            let found = page_programs::end_of(pages.code(page), begins.as_slice(), offset);
+            let found = h41_walk::end_of(&PageCode::of(pages, page), offset);
             offset_found(page, found)
         }
     }
@@ -260,8 +258,7 @@ pub fn line_number<const REGS: usize>(
         Position::Memory(byte) => h41_program::line_number(ram, byte),
         Position::Page(address) => {
             let (page, offset) = place_of(address);
-            let begins = pages.keystroke_offsets(page);
-            page_programs::line_number(pages.code(page), begins.as_slice(), offset)
+            h41_walk::line_number(&PageCode::of(pages, page), offset)
         }
     }
 }
@@ -281,8 +278,7 @@ pub fn line_before<const REGS: usize>(
         Position::Memory(byte) => byte_found(h41_program::line_before(ram, byte)),
         Position::Page(address) => {
             let (page, offset) = place_of(address);
-            let begins = pages.keystroke_offsets(page);
-            let found = page_programs::line_before(pages.code(page), begins.as_slice(), offset);
+            let found = h41_walk::line_before(&PageCode::of(pages, page), offset);
             offset_found(page, found)
         }
     }

@@ -78,7 +78,7 @@ pub fn line_at<const REGS: usize>(
     ensures { LineAt pages.now ram.now.registers at result }
 {
     match at {
-        Position::Memory(at) => match h41_program::line_at(ram, at) {
+        Position::Memory(at) => match h41_walk::line_at(ram, at) {
             Ok(listed) => Ok(PlacedLine {
                 position: Position::Memory(listed.position),
                 line: listed.line,
@@ -117,7 +117,7 @@ pub fn next<const REGS: usize>(
     ensures { NextAt pages.now ram.now.registers at result }
 {
     match at {
-        Position::Memory(at) => match h41_program::next(ram, at) {
+        Position::Memory(at) => match h41_walk::next(ram, at) {
             Ok(byte) => Ok(Position::Memory(byte)),
             Err(refusal) => Err(refusal),
         },
@@ -143,7 +143,7 @@ pub fn line_and_next<const REGS: usize>(
     ensures { LineAndNext pages.now ram.now.registers at result }
 {
     match at {
-        Position::Memory(at) => match h41_program::line_and_next(ram, at) {
+        Position::Memory(at) => match h41_walk::line_and_next(ram, at) {
             Ok((line, byte)) => Ok((line, Position::Memory(byte))),
             Err(refusal) => Err(refusal),
         },
@@ -218,7 +218,7 @@ pub fn local<const REGS: usize>(
     each_is_listed();
     lists_are_determined();
     match at {
-        Position::Memory(at) => byte_found(h41_program::local(ram, at, label)),
+        Position::Memory(at) => byte_found(h41_walk::local(ram, at, label)),
         Position::Page(address) => {
             let (page, offset) = place_of(address);
             let found = h41_walk::local(&PageCode::of(pages, page), offset, label);
@@ -235,7 +235,7 @@ pub fn end_of<const REGS: usize>(ram: &Ram<REGS>, pages: &Pages, at: Position) -
     ensures { EndOf pages.now ram.now.registers at result }
 {
     match at {
-        Position::Memory(at) => byte_found(h41_program::end_of(ram, at)),
+        Position::Memory(at) => byte_found(h41_walk::end_of(ram, at)),
         Position::Page(address) => {
             let (page, offset) = place_of(address);
             let found = h41_walk::end_of(&PageCode::of(pages, page), offset);
@@ -255,7 +255,7 @@ pub fn line_number<const REGS: usize>(
     ensures { NumberAt pages.now ram.now.registers position result }
 {
     match position {
-        Position::Memory(byte) => h41_program::line_number(ram, byte),
+        Position::Memory(byte) => h41_walk::line_number(ram, byte),
         Position::Page(address) => {
             let (page, offset) = place_of(address);
             h41_walk::line_number(&PageCode::of(pages, page), offset)
@@ -275,7 +275,7 @@ pub fn line_before<const REGS: usize>(
     ensures { LineBefore pages.now ram.now.registers position result }
 {
     match position {
-        Position::Memory(byte) => byte_found(h41_program::line_before(ram, byte)),
+        Position::Memory(byte) => byte_found(h41_walk::line_before(ram, byte)),
         Position::Page(address) => {
             let (page, offset) = place_of(address);
             let found = h41_walk::line_before(&PageCode::of(pages, page), offset);

@@ -132,9 +132,6 @@ module _ (memory : RegisterMap) (sound : is_sound memory ≡ true) (at p next : 
       let least = spelling_least line has.first.begins.spells.valid in
       omega (arith, behind, least)
 
-  pub place_valid : IsLine line
-  place_valid = has.first.begins.spells.valid
-
   pub place_inside : next ≤ byte_count memory
   place_inside =
       let less = has.inside in

@@ -27,10 +27,6 @@ final_no_name : (name : List ℕ) (line : Line) → is_final_end line ≡ true �
 final_no_name name (FinalEnd link marks) final = refl
 final_no_name name line final = cc
 
-final_no_label : (n : ℕ) (line : Line) → is_final_end line ≡ true → is_label n line ≡ false
-final_no_label n (FinalEnd link marks) final = refl
-final_no_label n line final = cc
-
 -- A label is no END.
 label_no_end : (n : ℕ) (line : Line) → is_label n line ≡ true → is_end line ≡ false
 label_no_end n (End link marks) is = cc
@@ -112,9 +108,6 @@ module _ (n : ℕ) (listed : ListedLine) (rest : List ListedLine) where
 
   pub label_in-other : is_end listed.line ≡ false → is_label n listed.line ≡ false → label_in n (listed ∷ rest) ≡ label_in n rest
   label_in-other other no_label = by_tests ∙ (rw (other, no_label) refl)
-
-pub label_in-final : (n : ℕ) (listed : ListedLine) → is_final_end listed.line ≡ true → label_in n (listed ∷ []) ≡ None
-label_in-final n listed final = label_in-other n listed [] (final_no_end listed.line final) (final_no_label n listed.line final)
 
 -- A search that found a line needs no second search.
 pub some_or : (first second : Option ListedLine) (position : ℕ) → position_of first ≡ Some position

@@ -1,12 +1,24 @@
--- The first byte of a line that was found.
-use Rattle.std.proofs.Common.{◌≡◌, ℕ, ◌<◌, length, get_or, arith, ap, sym, ◌∙◌}
+-- The first byte of a line that was found, and what it says about labels.
+use Rattle.std.proofs.Common.{◌≡◌, ℕ, ◌<◌, ◌≤◌, false, length, get_or, arith, ap, refl, sym, ◌∙◌}
 use Rattle.std.proofs.lemmas.List.{get_or-take}
 use Rattle.h41_codes.proofs.LineLengths.{spelling_least}
-use Rattle.h41_codes.specs.ByteGrammar.{spelling}
+use Rattle.h41_codes.specs.ByteGrammar.{IsLine, spelling}
+use Rattle.h41_codes.specs.declared.functions.ParameterFunction.TheVariants.{Label}
+use Rattle.h41_codes.specs.declared.line.Line.{Line}
+use Rattle.h41_codes.specs.declared.line.Line.TheVariants.{LocalLabel, WithOperand}
 use Rattle.h41_program.proofs.FirstLines.{first_byte, first_inside}
+use Rattle.h41_program.specs.Lines.{is_label}
 use Rattle.h41_program.specs.ProgramLines.{line_bytes}
 use Rattle.h41_program.specs.declared.reading.Found.{Found}
 use Rattle.h41_walk.specs.Sources.{HasFirst, Source}
+
+-- A local label begins with 01 to 0F or CF.
+pub no_label : (n : ℕ) (line : Line) → IsLine line → 0x10 ≤ get_or (spelling line) 0 0 → (get_or (spelling line) 0 0 ≡ 0xCF → ⊥)
+    → is_label n line ≡ false
+no_label n (LocalLabel label) valid from other = absurd (omega (arith, valid, from))
+no_label n (WithOperand Label operand) valid from other = absurd (other refl)
+no_label n (WithOperand function operand) valid from other = refl
+no_label n line valid from other = refl
 
 module _ (source : Source) (at : ℕ) (found : Found) (has : HasFirst source at found) where
   -- It is one of the bytes.

@@ -15,6 +15,7 @@ use Rattle.h41_program.proofs.SearchSteps.{label_in-end, label_in-here, label_in
 use Rattle.h41_walk.specs.Sources.{AnswersNext, HasFirst, HasNoLine, PositionFrom, ProgramFrom, Source, is_program_end, label_position}
 use Rattle.h41_walk.specs.private.Walks.{FoundBehind}
 use Rattle.std.proofs.lemmas.Bool.{cases_Bool}
+use Rattle.std.proofs.lemmas.Bool.Decides.{nat_tests}
 
 -- The lines from a position on, by the first of them.
 module _ (source : Source) (at : ℕ) (found : Found) (is : HasFirst source at found) where
@@ -127,6 +128,13 @@ label_last n listed none = elim (cases_Bool (is_end listed.line)) [
   | inl end ↦ ap position_of (label_in-end n listed [] end)
   | inr other ↦ ap position_of (label_in-other n listed [] other none)
 ]
+
+-- Tests of numbers.
+pub same_test : (a b : ℕ) → a ≡ b → (a == b) ≡ true
+same_test a b same = grind (arith, nat_tests)
+
+pub other_test : (a b : ℕ) → (a ≡ b → ⊥) → (a == b) ≡ false
+other_test a b other = grind (arith, nat_tests)
 
 -- The number of a line, if this many lines were counted.
 abbrev pub counted : ℕ → ℕ → List ListedLine → Option ℕ

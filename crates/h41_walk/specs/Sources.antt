@@ -8,7 +8,7 @@ use Rattle.h41_program.specs.ProgramLines.{FirstFrom, IsFirst, NoneFrom, ReadsTo
 use Rattle.h41_program.specs.Searches.{label_in, position_of}
 use Rattle.h41_program.specs.declared.listed_line.ListedLine.{ListedLine}
 use Rattle.h41_program.specs.declared.reading.Found.{Found}
-use Rattle.h41_walk.specs.declared.place.LinePlace.{LinePlace}
+use Rattle.h41_program.specs.declared.reading.LinePlace.{LinePlace}
 use Rattle.h41_program.specs.declared.refusal.ProgramRefusal.{ProgramRefusal}
 use Rattle.h41_program.specs.declared.refusal.ProgramRefusal.TheVariants.{BrokenProgram}
 

@@ -2,9 +2,8 @@
 
 ghost use Rattle.std.specs.Prelude.{◌≡◌, ◌<◌, ◌≤◌, length, slice_index, IfSome, IfNone, Ok};
 
-use crate::place::LinePlace;
 use h41_codes::Line;
-use h41_program::{Found, ListedLine, is_end, is_final_end};
+use h41_program::{Found, LinePlace, ListedLine, is_end, is_final_end};
 
 /// A place that contains program lines, such as memory or a page. A position is the number of bytes before a byte. What
 /// is found from a position depends only on `source`: the bytes and the lines that end a list. An implementation gives

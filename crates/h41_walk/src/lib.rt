@@ -5,14 +5,13 @@
 
 mod code;
 mod lines;
+mod memory;
 mod numbering;
-mod place;
 mod programs;
 mod searches;
 
 pub use code::Code;
 pub use lines::{line_and_next, line_at, next};
 pub use numbering::{number_from, numbered_from};
-pub use place::LinePlace;
 pub use programs::{Programs, end_of, line_before, line_number, local};
 pub use searches::{end_from, label_from};

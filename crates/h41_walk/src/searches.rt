@@ -7,9 +7,8 @@ ghost use Rattle.h41_walk.specs.Sources.{AnswersAll, HasPlace, label_position};
 ghost use Rattle.h41_walk.specs.private.Walks.{OfPlace};
 
 use crate::code::Code;
-use crate::place::LinePlace;
 use h41_codes::Parameter;
-use h41_program::is_label;
+use h41_program::{LinePlace, is_label};
 
 /// Returns the position of the first END or `.END.` from a position on, or `None` if no line follows before one is
 /// found.

@@ -1,7 +1,6 @@
 use Rattle.std.proofs.Common.{◌+◌, [], sym, ◌∙◌, arith}
 use Rattle.h41_program.specs.Numbering.{number_in}
-use Rattle.h41_program.proofs.Numbers.{other_test, same_test}
-use Rattle.h41_walk.proofs.Walks.{asked_first, asked_last, asked_none, asks_more, counted, counted_here, counted_none, counted_other}
+use Rattle.h41_walk.proofs.Walks.{asked_first, asked_last, asked_none, asks_more, counted, counted_here, counted_none, counted_other, other_test, same_test}
 use Rattle.h41_walk.proofs.numbering.number_from.Goals as goal
 
 pub loop-found-init : goal.loop-found-init

@@ -1,7 +1,6 @@
 use Rattle.std.proofs.Common.{◌≡◌, ℕ, ◌-◌, [], sym, subst, ◌∙◌, arith}
 use Rattle.h41_program.specs.Numbering.{numbered_in}
-use Rattle.h41_program.proofs.Numbers.{other_test, same_test}
-use Rattle.h41_walk.proofs.Walks.{Asks, asked_first, asked_last, asked_none, asks_all, asks_more, numbered_here, numbered_other}
+use Rattle.h41_walk.proofs.Walks.{Asks, asked_first, asked_last, asked_none, asks_all, asks_more, numbered_here, numbered_other, other_test, same_test}
 use Rattle.h41_walk.proofs.numbering.numbered_from.Goals as goal
 
 pub loop-found-init : goal.loop-found-init

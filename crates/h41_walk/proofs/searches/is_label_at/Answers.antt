@@ -3,8 +3,7 @@ use Rattle.h41_codes.specs.ByteGrammar.{spelling}
 use Rattle.h41_program.specs.Lines.{is_label}
 use Rattle.h41_program.specs.declared.listed_line.ListedLine.{ListedLine}
 use Rattle.h41_program.specs.declared.reading.Found.{Found}
-use Rattle.h41_program.proofs.Labels.{no_label}
-use Rattle.h41_walk.proofs.LabelBytes.{byte_first, byte_inside}
+use Rattle.h41_walk.proofs.LabelBytes.{byte_first, byte_inside, no_label}
 use Rattle.h41_walk.proofs.searches.is_label_at.Goals as goal
 
 pub byte_at-first-requires-clause-inside : goal.byte_at-first-requires-clause-inside

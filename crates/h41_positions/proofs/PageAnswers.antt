@@ -14,7 +14,7 @@ use Rattle.h41_program.specs.declared.listed_line.ListedLine.{ListedLine}
 use Rattle.h41_program.specs.declared.refusal.ProgramRefusal.{ProgramRefusal}
 use Rattle.h41_program.specs.declared.refusal.ProgramRefusal.TheVariants.{BrokenProgram}
 use Rattle.h41_ram.specs.RegisterMap.{RegisterMap}
-use Rattle.h41_walk.specs.Sources.{AnswersBoth, bytes_source}
+use Rattle.h41_program.specs.Sources.{AnswersBoth, bytes_source}
 
 -- What is found at a byte of memory.
 pub both_here : (pages : PageMap) (memory : RegisterMap) (at : ℕ) (line : Line) (byte : ℕ)

@@ -10,8 +10,9 @@ use Rattle.h41_program.specs.ProgramLaws.{EachIsListed}
 use Rattle.h41_program.specs.Searches.{label_in, position_of}
 use Rattle.h41_program.specs.declared.listed_line.ListedLine.{ListedLine}
 use Rattle.h41_program.specs.declared.reading.Found.{Found}
-use Rattle.h41_walk.specs.Sources.{AnswersProgram, HasFirst, Otherwise, bytes_source, label_position}
-use Rattle.h41_walk.specs.Sources as walk
+use Rattle.h41_program.specs.Sources.{HasFirst, bytes_source}
+use Rattle.h41_walk.specs.Searches.{AnswersProgram, Otherwise, label_position}
+use Rattle.h41_walk.specs.Searches as walk
 
 -- A list that contains the line of an offset reaches the offset.
 pub found_reaches : (code : List ℕ) (at begin : ℕ) (first : Found) (lines : List ListedLine)

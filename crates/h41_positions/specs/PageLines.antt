@@ -10,9 +10,10 @@ use Rattle.h41_program.specs.Numbering.{number_in}
 use Rattle.h41_program.specs.Searches.{label_in, position_of}
 use Rattle.h41_program.specs.declared.listed_line.ListedLine.{ListedLine}
 use Rattle.h41_program.specs.declared.refusal.ProgramRefusal.{ProgramRefusal}
-use Rattle.h41_walk.specs.Sources.{AnswersNext, AnswersProgram, PositionBehind, PositionFrom}
-use Rattle.h41_walk.specs.Sources.{ProgramFrom, bytes_source, is_program_end}
-use Rattle.h41_walk.specs.Sources as sources
+use Rattle.h41_program.specs.Sources.{AnswersNext, PositionBehind, PositionFrom, ProgramFrom}
+use Rattle.h41_program.specs.Sources.{bytes_source, is_program_end}
+use Rattle.h41_program.specs.Sources as sources
+use Rattle.h41_walk.specs.Searches.{AnswersProgram}
 
 -- The lines that end a program of a page.
 abbrev pub is_page_end : Line → Bool

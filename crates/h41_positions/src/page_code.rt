@@ -6,7 +6,8 @@ ghost use Rattle.h41_pages.specs.Addresses.{page_size};
 ghost use Rattle.h41_pages.specs.FunctionTables.{code_of, keystroke_offsets};
 ghost use Rattle.h41_positions.specs.PageLines.{StartsAt};
 ghost use Rattle.h41_program.specs.Numbering.{number_in};
-ghost use Rattle.h41_walk.specs.Sources.{AnswersAll, HasFirst, bytes_source};
+ghost use Rattle.h41_program.specs.Sources.{HasFirst, bytes_source};
+ghost use Rattle.h41_walk.specs.Searches.{AnswersAll};
 
 use h41_codes::Line;
 use h41_pages::Pages;

@@ -20,7 +20,8 @@ use Rattle.h41_program.specs.private.EditSteps.{PacksChanged, Writes, lines_of_c
 use Rattle.h41_program.specs.Lines.{is_final_end}
 use Rattle.h41_program.specs.private.Packers.{Packs, line_if}
 use Rattle.h41_program.specs.ProgramBytes.{final_position, program_bytes}
-use Rattle.h41_program.specs.ProgramLines.{AnswersFirst, FirstFrom, IsFirst, Reads, NoneFrom}
+use Rattle.h41_program.specs.FirstLines.{FirstFrom, IsFirst, NoneFrom}
+use Rattle.h41_program.specs.ProgramLines.{AnswersFirst, Reads}
 use Rattle.h41_program.specs.Rewriting.{HasOutcome, with_program_lines}
 use Rattle.h41_program.proofs.Walks.{UpTo, ends_none, ends_final, before_end-none, before_end-final}
 use Rattle.h41_program.proofs.Cases.{not_both}

@@ -14,7 +14,8 @@ use Rattle.h41_codes.specs.declared.line.Line.{Line}
 use Rattle.h41_codes.specs.declared.line.Line.TheVariants.{Number}
 use Rattle.h41_ram.specs.RegisterMap.{RegisterMap, is_sound}
 use Rattle.h41_program.specs.ProgramBytes.{byte_count, program_byte, program_bytes, final_position}
-use Rattle.h41_program.specs.ProgramLines.{line_bytes, HasFirst, HasNoLine, HasPlace}
+use Rattle.h41_program.specs.FirstLines.{line_bytes}
+use Rattle.h41_program.specs.ProgramLines.{HasFirst, HasNoLine, HasPlace}
 use Rattle.h41_program.specs.declared.reading.LinePlace.{LinePlace}
 use Rattle.h41_program.specs.private.Reading.{bytes_seen, BeginsAt, BeginsNothing}
 use Rattle.h41_program.proofs.FirstLines.{first_inside}

@@ -19,7 +19,8 @@ use Rattle.h41_program.specs.Lines.{is_number}
 use Rattle.h41_program.specs.Packing.{gap, last_line, packed_lines, filler, packing, written_end}
 use Rattle.h41_program.specs.private.Packers.{null_between}
 use Rattle.h41_program.specs.ProgramLaws.{IsInner, PackingRoundTrip}
-use Rattle.h41_program.specs.ProgramLines.{line_bytes, FirstFrom, Reads, behind}
+use Rattle.h41_program.specs.FirstLines.{line_bytes, FirstFrom, behind}
+use Rattle.h41_program.specs.ProgramLines.{Reads}
 use Rattle.h41_program.proofs.FirstLines.{line_bytes-below, line_bytes-at}
 use Rattle.h41_program.proofs.Inner.{not_final, not_null}
 use Rattle.h41_program.proofs.Packings.{length-packing, packed-join}

@@ -12,7 +12,8 @@ use Rattle.h41_codes.specs.declared.line.Line.{Line}
 use Rattle.h41_codes.specs.declared.line.Line.TheVariants.{End, FinalEnd}
 use Rattle.h41_program.specs.declared.listed_line.ListedLine.{ListedLine}
 use Rattle.h41_program.specs.Lines.{is_end, is_final_end, is_label, is_named}
-use Rattle.h41_program.specs.ProgramLines.{behind, Reads}
+use Rattle.h41_program.specs.FirstLines.{behind}
+use Rattle.h41_program.specs.ProgramLines.{Reads}
 use Rattle.h41_program.proofs.Cases.{above_test, not_empty}
 use Rattle.h41_program.proofs.Walks.{last_rest, more_rest}
 use Rattle.h41_program.specs.Searches.{start_in, label_in, named_in, position_of}

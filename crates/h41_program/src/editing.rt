@@ -13,7 +13,7 @@ ghost use Rattle.h41_program.specs.private.EditSteps.{listed_of, new_part};
 ghost use Rattle.h41_program.specs.private.EditSteps as spec;
 ghost use Rattle.h41_program.specs.Lines.{is_inner};
 ghost use Rattle.h41_program.specs.private.Packers.{Puts, line_if};
-ghost use Rattle.h41_program.specs.ProgramLines.{behind};
+ghost use Rattle.h41_program.specs.FirstLines.{behind};
 ghost use Rattle.h41_program.specs.private.Reading.{AnswersFrom};
 ghost use Rattle.h41_program.specs.declared.editing.Change.TheVariants.{Put};
 ghost use Rattle.h41_ram.specs.RamState.{KeepsMark, MarksIf};

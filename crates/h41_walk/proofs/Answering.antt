@@ -2,7 +2,8 @@
 use Rattle.std.proofs.Common.{ℕ, List, Option, Some, None, refl, subst}
 use Rattle.h41_program.specs.ProgramLaws.{EachIsListed}
 use Rattle.h41_program.specs.declared.listed_line.ListedLine.{ListedLine}
-use Rattle.h41_walk.specs.Sources.{AnswersAll, AnswersLabel, AnswersProgram, Otherwise, Source, is_program_end, label_position}
+use Rattle.h41_program.specs.Sources.{Source, is_program_end}
+use Rattle.h41_walk.specs.Searches.{AnswersAll, AnswersLabel, AnswersProgram, Otherwise, label_position}
 
 module _ (lists : EachIsListed) (source : Source) (starts : ℕ → ℕ → Type 0) (at : ℕ) where
   -- An answer for the lines from the start of a program is one for the program.

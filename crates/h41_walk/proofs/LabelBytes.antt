@@ -8,9 +8,9 @@ use Rattle.h41_codes.specs.declared.line.Line.{Line}
 use Rattle.h41_codes.specs.declared.line.Line.TheVariants.{LocalLabel, WithOperand}
 use Rattle.h41_program.proofs.FirstLines.{first_byte, first_inside}
 use Rattle.h41_program.specs.Lines.{is_label}
-use Rattle.h41_program.specs.ProgramLines.{line_bytes}
+use Rattle.h41_program.specs.FirstLines.{line_bytes}
 use Rattle.h41_program.specs.declared.reading.Found.{Found}
-use Rattle.h41_walk.specs.Sources.{HasFirst, Source}
+use Rattle.h41_program.specs.Sources.{HasFirst, Source}
 
 -- A local label begins with 01 to 0F or CF.
 pub no_label : (n : ℕ) (line : Line) → IsLine line → 0x10 ≤ get_or (spelling line) 0 0 → (get_or (spelling line) 0 0 ≡ 0xCF → ⊥)

@@ -7,12 +7,13 @@ use Rattle.h41_codes.specs.declared.line.Line.{Line}
 use Rattle.h41_codes.specs.declared.line.Line.TheVariants.{End, FinalEnd}
 use Rattle.h41_program.specs.Lines.{is_end, is_final_end, is_label}
 use Rattle.h41_program.specs.Numbering.{number_in, numbered_in}
-use Rattle.h41_program.specs.ProgramLines.{behind}
+use Rattle.h41_program.specs.FirstLines.{behind}
 use Rattle.h41_program.specs.Searches.{end_in, position_of}
 use Rattle.h41_program.specs.declared.listed_line.ListedLine.{ListedLine}
 use Rattle.h41_program.specs.declared.reading.Found.{Found}
 use Rattle.h41_program.proofs.SearchSteps.{label_in-end, label_in-here, label_in-other}
-use Rattle.h41_walk.specs.Sources.{AnswersNext, HasFirst, HasNoLine, PositionFrom, ProgramFrom, Source, is_program_end, label_position}
+use Rattle.h41_program.specs.Sources.{AnswersNext, HasFirst, HasNoLine, PositionFrom, ProgramFrom, Source, is_program_end}
+use Rattle.h41_walk.specs.Searches.{label_position}
 use Rattle.h41_walk.specs.private.Walks.{FoundBehind}
 use Rattle.std.proofs.lemmas.Bool.{cases_Bool}
 use Rattle.std.proofs.lemmas.Bool.Decides.{nat_tests}

@@ -1,3 +1,2 @@
-pub mod Places
-pub mod Sources
+pub mod Searches
 pub mod private

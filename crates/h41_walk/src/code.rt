@@ -9,8 +9,7 @@ use h41_program::{Found, LinePlace, ListedLine, is_end, is_final_end};
 /// is found from a position depends only on `source`: the bytes and the lines that end a list. An implementation gives
 /// the functions without a body; it may replace the others by faster ones.
 pub trait Code {
-    ghost use Rattle.h41_walk.specs.Sources.{AnswersNext, HasFirst, HasNoLine, HasPlace};
-    ghost use Rattle.h41_walk.specs.Sources.{PositionFrom, Source};
+    ghost use Rattle.h41_program.specs.Sources.{AnswersNext, HasFirst, HasNoLine, HasPlace, PositionFrom, Source};
 
     // The bytes and the lines that end a list.
     ghost source: { Self → Source };

@@ -1,6 +1,6 @@
 //! The line at a position, and the position of the line after it.
 
-ghost use Rattle.h41_walk.specs.Sources.{AnswersBoth, AnswersLine, AnswersNext};
+ghost use Rattle.h41_program.specs.Sources.{AnswersBoth, AnswersLine, AnswersNext};
 ghost use Rattle.h41_walk.specs.private.Walks.{FoundBehind};
 
 use crate::code::Code;

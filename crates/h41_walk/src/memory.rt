@@ -2,7 +2,8 @@
 
 ghost use Rattle.std.specs.Prelude.{IsTrue};
 ghost use Rattle.h41_ram.specs.RegisterMap.{is_sound};
-ghost use Rattle.h41_walk.specs.Places.{MemoryStarts, memory_source};
+ghost use Rattle.h41_program.specs.ProgramLines.{memory_source};
+ghost use Rattle.h41_walk.specs.Searches.{MemoryStarts};
 
 use crate::code::Code;
 use crate::programs::Programs;

@@ -2,8 +2,8 @@
 
 ghost use Rattle.std.specs.Prelude.{◌≡◌, ◌≤◌, IfSome};
 ghost use Rattle.h41_program.specs.Numbering.{number_in, numbered_in};
-ghost use Rattle.h41_walk.specs.Sources as spec;
-ghost use Rattle.h41_walk.specs.Sources.{AnswersAll};
+ghost use Rattle.h41_program.specs.Sources as spec;
+ghost use Rattle.h41_walk.specs.Searches.{AnswersAll};
 
 use crate::code::Code;
 use h41_codes::Line;

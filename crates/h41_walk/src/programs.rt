@@ -2,7 +2,7 @@
 
 ghost use Rattle.h41_program.specs.Numbering.{before_in, number_in};
 ghost use Rattle.h41_program.specs.Searches.{end_in};
-ghost use Rattle.h41_walk.specs.Sources.{AnswersLabel, AnswersProgram};
+ghost use Rattle.h41_walk.specs.Searches.{AnswersLabel, AnswersProgram};
 
 use crate::code::Code;
 use crate::numbering::{number_from, numbered_from};

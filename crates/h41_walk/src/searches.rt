@@ -3,7 +3,8 @@
 ghost use Rattle.std.specs.Prelude.{◌≡◌};
 ghost use Rattle.h41_program.specs.Lines as spec;
 ghost use Rattle.h41_program.specs.Searches.{end_in};
-ghost use Rattle.h41_walk.specs.Sources.{AnswersAll, HasPlace, label_position};
+ghost use Rattle.h41_program.specs.Sources.{HasPlace};
+ghost use Rattle.h41_walk.specs.Searches.{AnswersAll, label_position};
 ghost use Rattle.h41_walk.specs.private.Walks.{OfPlace};
 
 use crate::code::Code;

@@ -3,7 +3,7 @@ use Rattle.std.specs.Prelude.{◌≡◌, ℕ, MatchBool, if◌then◌else◌}
 use Rattle.h41_codes.specs.declared.line.Line.{Line}
 use Rattle.h41_program.specs.declared.reading.Found.{Found}
 use Rattle.h41_program.specs.declared.reading.LinePlace.{LinePlace}
-use Rattle.h41_walk.specs.Sources.{HasFirst, PositionFrom, Source}
+use Rattle.h41_program.specs.Sources.{HasFirst, PositionFrom, Source}
 
 -- The position of the line after a line that was found.
 abbrev pub FoundBehind : Source → Found → ℕ → Type 0

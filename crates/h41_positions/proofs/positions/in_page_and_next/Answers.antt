@@ -4,7 +4,7 @@ use Rattle.h41_positions.specs.Positions.{LineAndNext}
 use Rattle.h41_positions.specs.declared.position.Position.{Position}
 use Rattle.h41_positions.specs.declared.position.Position.TheVariants.{Page}
 use Rattle.h41_program.specs.declared.refusal.ProgramRefusal.{ProgramRefusal}
-use Rattle.h41_walk.specs.Sources.{AnswersBoth, bytes_source}
+use Rattle.h41_program.specs.Sources.{AnswersBoth, bytes_source}
 use Rattle.h41_positions.proofs.PageAnswers.{both_there, none_there}
 use Rattle.h41_positions.proofs.positions.in_page_and_next.Goals as goal
 

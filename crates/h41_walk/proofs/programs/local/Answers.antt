@@ -1,5 +1,5 @@
 use Rattle.std.proofs.Common.{ℕ, Option, subst}
-use Rattle.h41_walk.specs.Sources.{AnswersAll, label_position}
+use Rattle.h41_walk.specs.Searches.{AnswersAll, label_position}
 use Rattle.h41_walk.proofs.Answering.{label_onward, label_own}
 use Rattle.h41_walk.proofs.programs.local.Goals as goal
 

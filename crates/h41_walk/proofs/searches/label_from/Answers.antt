@@ -1,6 +1,6 @@
 use Rattle.std.proofs.Common.{sym, ◌∙◌}
 use Rattle.h41_program.specs.declared.reading.Found.{Found}
-use Rattle.h41_walk.specs.Sources.{label_position}
+use Rattle.h41_walk.specs.Searches.{label_position}
 use Rattle.h41_walk.proofs.Walks.{asked_first, asked_last, asked_none, asks_all, asks_more, ends_memory, ends_none, ends_program}
 use Rattle.h41_walk.proofs.Walks.{label_here, label_last, label_other}
 use Rattle.h41_walk.proofs.searches.label_from.Goals as goal

@@ -1,5 +1,5 @@
 use Rattle.std.proofs.Common.{length, ◌-◌}
-use Rattle.h41_walk.specs.Sources.{label_position}
+use Rattle.h41_walk.specs.Searches.{label_position}
 use Rattle.h41_walk.proofs.Walks.{Asks}
 use Rattle.h41_walk.proofs.searches.label_from.Given as goal
 

@@ -1,11 +1,10 @@
--- Places that contain programs, such as memory or a page, as far as reading their lines depends on
--- them, and what is found in such a place. The definitions are the same for each place.
+-- Places that contain program lines, such as memory or a page, as far as reading their lines depends
+-- on them, and the lines that are read there. The definitions are the same for each place.
 use Rattle.std.specs.Prelude.{◌≡◌, ◌⊎◌, ℕ, false, Bool, MatchBool, ◌||◌, if◌then◌else◌}
-use Rattle.std.specs.Prelude.{List, length, Option, Some, None, Result, Ok, Err}
+use Rattle.std.specs.Prelude.{List, length, Result, Ok, Err}
 use Rattle.h41_codes.specs.declared.line.Line.{Line}
+use Rattle.h41_program.specs.FirstLines.{FirstFrom, IsFirst, NoneFrom, ReadsTo, behind}
 use Rattle.h41_program.specs.Lines.{is_end, is_final_end}
-use Rattle.h41_program.specs.ProgramLines.{FirstFrom, IsFirst, NoneFrom, ReadsTo, behind}
-use Rattle.h41_program.specs.Searches.{label_in, position_of}
 use Rattle.h41_program.specs.declared.listed_line.ListedLine.{ListedLine}
 use Rattle.h41_program.specs.declared.reading.Found.{Found}
 use Rattle.h41_program.specs.declared.reading.LinePlace.{LinePlace}
@@ -102,36 +101,3 @@ AnswersBoth source at (Ok both) =
     ((first : ListedLine) × AnswersLine source at (Ok first) × (first.line ≡ both.0))
     × AnswersNext source at (Ok both.1)
 AnswersBoth source at (Err refusal) = AnswersLine source at (Err refusal)
-
--- An answer is that of the lines from a position on, to the END or .END. of their program.
-abbrev pub AnswersAll : {A : Type 0} → (List ListedLine → A) → Source → ℕ → A → Type 0
-AnswersAll answer source at result =
-    (lines : List ListedLine) → ProgramFrom source at lines → result ≡ answer lines
-
--- The answer for the program of a position is that for the lines from the program's start to its
--- END or .END. `StartsAt` says where the program of a position starts.
-pub record AnswersProgram {A : Type 0} (answer : List ListedLine → A)
-    (source : Source) (StartsAt : ℕ → ℕ → Type 0) (at : ℕ) (result : A) : Type 0 where
-  pub start : ℕ
-  pub own : List ListedLine
-  pub starts : StartsAt at start
-  pub program : ProgramFrom source start own
-  pub is : result ≡ answer own
-
--- The position of LBL n among these lines.
-abbrev pub label_position : ℕ → List ListedLine → Option ℕ
-label_position n lines = position_of (label_in n lines)
-
--- The first answer, or the second one if the first is none.
-abbrev pub Otherwise : Option ℕ → (Option ℕ → Type 0) → Option ℕ → Type 0
-Otherwise (Some position) second result = result ≡ Some position
-Otherwise None second result = second result
-
--- The position of LBL n for a search from a position: the first one from there to the end of the
--- program, otherwise the first one of the program.
-abbrev pub AnswersLabel : ℕ → Source → (ℕ → ℕ → Type 0) → ℕ → Option ℕ → Type 0
-AnswersLabel n source StartsAt at result =
-    (onward : List ListedLine)
-    × ProgramFrom source at onward
-    × Otherwise (label_position n onward) (AnswersProgram (label_position n) source StartsAt at)
-    result

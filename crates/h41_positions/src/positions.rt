@@ -15,7 +15,7 @@ use crate::position::{PlacedLine, Position};
 use h41_codes::{Line, Parameter, ShortLine};
 use h41_pages::{PAGE_WORDS, Pages};
 use h41_program::ProgramRefusal;
-use h41_program::laws::{each_is_listed, lists_are_determined};
+use h41_program::laws::{each_is_listed, lists_are_determined, one_list};
 use h41_ram::Ram;
 use h41_walk::Programs;
 
@@ -217,8 +217,12 @@ pub fn local<const REGS: usize>(
 {
     each_is_listed();
     lists_are_determined();
+    one_list();
     match at {
-        Position::Memory(at) => byte_found(h41_walk::local(ram, at, label)),
+        Position::Memory(at) => {
+            let byte = h41_walk::local(ram, at, label);
+            byte_found(byte)
+        }
         Position::Page(address) => {
             let (page, offset) = place_of(address);
             let found = h41_walk::local(&PageCode::of(pages, page), offset, label);
@@ -234,8 +238,13 @@ pub fn end_of<const REGS: usize>(ram: &Ram<REGS>, pages: &Pages, at: Position) -
     requires { IsTrue (is_sound ram.now.registers) }
     ensures { EndOf pages.now ram.now.registers at result }
 {
+    lists_are_determined();
+    one_list();
     match at {
-        Position::Memory(at) => byte_found(h41_walk::end_of(ram, at)),
+        Position::Memory(at) => {
+            let byte = h41_walk::end_of(ram, at);
+            byte_found(byte)
+        }
         Position::Page(address) => {
             let (page, offset) = place_of(address);
             let found = h41_walk::end_of(&PageCode::of(pages, page), offset);
@@ -254,6 +263,8 @@ pub fn line_number<const REGS: usize>(
     requires { IsTrue (is_sound ram.now.registers) }
     ensures { NumberAt pages.now ram.now.registers position result }
 {
+    lists_are_determined();
+    one_list();
     match position {
         Position::Memory(byte) => h41_walk::line_number(ram, byte),
         Position::Page(address) => {
@@ -274,8 +285,13 @@ pub fn line_before<const REGS: usize>(
     requires { IsTrue (is_sound ram.now.registers) }
     ensures { LineBefore pages.now ram.now.registers position result }
 {
+    lists_are_determined();
+    one_list();
     match position {
-        Position::Memory(byte) => byte_found(h41_walk::line_before(ram, byte)),
+        Position::Memory(at) => {
+            let byte = h41_walk::line_before(ram, at);
+            byte_found(byte)
+        }
         Position::Page(address) => {
             let (page, offset) = place_of(address);
             let found = h41_walk::line_before(&PageCode::of(pages, page), offset);

@@ -1,6 +1,8 @@
+use Rattle.std.proofs.Common.{refl}
 use Rattle.h41_pages.specs.FunctionTables.{keystroke_offsets}
 use Rattle.h41_program.specs.Searches.{end_in}
 use Rattle.h41_positions.proofs.PageAnswers.{finds_there}
+use Rattle.h41_walk.proofs.MemoryPrograms.{program_here}
 use Rattle.h41_positions.proofs.positions.end_of.Goals as goal
 
 pub byte_found-requires : goal.byte_found-requires
@@ -19,3 +21,13 @@ returns-in-Page g c =
     (finds_there pages c.args.ram.now.registers c.in-Page.address page offset own.code.now c.place_of-page.ensures.page
     c.place_of-page.ensures.offset c.of.ensures.code (keystroke_offsets own.pages.now own.page)
     (λ i. keystroke_offsets (c.of.ensures.pages i) (c.of.ensures.page i)) (λ place. end_in) c.end_of-found.result c.end_of-found.ensures)
+
+pub returns-in-Memory : goal.returns-in-Memory
+returns-in-Memory g c =
+    let memory = c.args.ram.now.registers in
+    rw (c.in-Memory.is, c.byte_found.ensures) (
+      c.end_of-byte.result,
+      program_here memory c.requires c.one_list.ensures c.lists_are_determined.ensures.read end_in c.in-Memory.at c.end_of-byte.result
+          c.end_of-byte.ensures,
+      refl,
+    )

@@ -1,7 +1,9 @@
+use Rattle.std.proofs.Common.{refl}
 use Rattle.h41_pages.specs.FunctionTables.{keystroke_offsets}
 use Rattle.h41_positions.proofs.Begun.{start_some}
 use Rattle.h41_positions.proofs.PageAnswers.{local_there}
 use Rattle.h41_positions.proofs.PageStarts.{labelled}
+use Rattle.h41_walk.proofs.MemoryPrograms.{local_here}
 use Rattle.h41_positions.proofs.positions.local.Goals as goal
 
 pub byte_found-requires : goal.byte_found-requires
@@ -25,3 +27,13 @@ returns-in-Page g c =
     c.place_of-page.ensures.offset c.of.ensures.code begins (λ i. keystroke_offsets (c.of.ensures.pages i) (c.of.ensures.page i))
     c.args.label c.local-found.result
     (labelled own.code.now begins offset c.args.label lists.lines some c.local-found.result c.local-found.ensures))
+
+pub returns-in-Memory : goal.returns-in-Memory
+returns-in-Memory g c =
+    let memory = c.args.ram.now.registers in
+    rw (c.in-Memory.is, c.byte_found.ensures) (
+      c.local-byte.result,
+      local_here memory c.requires c.one_list.ensures c.lists_are_determined.ensures.read c.in-Memory.at c.args.label
+          c.local-byte.result c.local-byte.ensures,
+      refl,
+    )

@@ -21,6 +21,9 @@ if TYPE_CHECKING:
 MOST = 6
 # The byte of RTN, and a word that begins a program line with it.
 RTN_BYTE, RTN_WORD = "85", "185"
+# A page whose only program has a label, RTN at each address after it, and END: without a return address, RTN goes to the label.
+LABEL_AT = "006"
+PAGE_WORDS = [*"6 1 200 6 0 0 C0 0 F2 0 53".split(), *[RTN_WORD] * 4082, *"C0 0 D".split()]
 # A session with more steps is not executed again.
 MOST_AGAIN = MOST_STEPS // 10
 
@@ -99,17 +102,23 @@ class Returns:
     @staticmethod
     def positions(desk: Desk, state: State, memory: Memory) -> Optional[list[str]]:
         """Returns the positions to which the program returns, the next one first; None if they cannot be found."""
-        mode, plugged = state["pos"][0].split()[0], state["pages"]
+        (mode, place), plugged = state["pos"][0].split(), state["pages"]
         stub, page = writing(memory), next((page for page in "456789ABCDEF" if page not in plugged), "4")
-        rows = "\n".join([" ".join([RTN_WORD] * 32)] * 128)
+        rows = "\n".join(" ".join(PAGE_WORDS[at:at + 32]) for at in range(0, len(PAGE_WORDS), 32))
         commands = [*(["key R/S"] if mode == "Run" else []), *([f"unplug {page}"] if page in plugged else []),
                     f"words {page}\n{stub.text}end", f"call {page}000", f"step {stub.steps}", f"unplug {page}",
                     *(command for one in plugged for command in ([f"unplug {one}"] * (one != page) + [f"words {one}\n{rows}\nend"]))]
         if any(desk.bench.ask_all([command.encode() for command in commands])):
             return None
+        # At the label of such a page, a step goes on to the first RTN.
+        desk.bench.ask_all([b"step"] * (place[:1] == "P" and place[2:] == LABEL_AT))
         replies = desk.bench.ask_all([b"step", b"show pos"] * (MOST + 1))
         places = [reply[0].split()[1] for reply in replies[1::2]]
-        # Without a return address, RTN goes to line 00 of its program, and stays there. No return address is there.
+        # Without a return address, RTN goes to line 00 of its program: in a page to the label, in memory to a place where it stays. No return
+        # address is there.
+        started = next((at for at, one in enumerate(places) if one[:1] == "P" and one[2:] == LABEL_AT), None)
+        if started is not None:
+            return None if any(replies[:2 * started:2]) else places[:started]
         while places[1:] and places[-2] == places[-1]:
             places.pop()
         return None if any(replies[::2]) else places[:-1]

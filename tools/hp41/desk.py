@@ -19,7 +19,7 @@ from .explaining import is_carrying, of_line, of_word
 from .foreseen import Around, program_at, program_in_page
 from .history import History, Place, State
 from .lessons import OpenLesson
-from .lights import AFTER, BEFORE, PROMPT, Lights, Seen, is_display_off
+from .lights import AFTER, BEFORE, PROMPT, Lights, Seen
 from .matches import whole
 from .memory import MAIN_START, Memory
 from .paging import Listed, Pages
@@ -95,8 +95,6 @@ class Desk:
         self.history, self.plugs = History(), 0
         # The number of steps in a piece, the number of steps that were made, and how many of them were made before the last look.
         self.size, self.made, self.seen = 256, 0, 0
-        # How many steps were made when the last key was accepted that makes no step itself; -1 if there is none after the last SST.
-        self.pressed = -1
         try:
             self.look()
         except Failure as failure:
@@ -283,7 +281,6 @@ class Desk:
                 entry.reply, entry.key = replies[len(BEFORE)], name
                 return
             self.lights.press(name, Seen(*views[:len(BEFORE)]), Seen(*views[len(BEFORE):]))
-            self.pressed = self.made if name != "SST" else -1
 
     def keep_up(self, part: Part, entry: Entry) -> None:
         """Records what an accepted command changes if no command shows it."""
@@ -400,20 +397,10 @@ class Desk:
         return {**self.views, "shift": self.lights.shift, "program": self.lights.program,
                 "breaks": sorted([kind, place] for kind, place in self.breaks), "spells": spells,
                 "writable": sorted([page, bank] for page, bank in self.names.written if (page, bank) in self.names.known),
-                "keys_if": self.lights.keys_if(display, flags, is_name), "off": self.is_display_off(),
+                "keys_if": self.lights.keys_if(display, flags, is_name),
                 "label": self.labels.of(self.views["pos"][0].split()[1]) if self.views["listing"] else "",
                 "last": self.log[-1].told() if self.log else ["", []], "entries": len(self.log),
                 "doing": (self.doing() or b"").decode() if self.queue and self.queue[0].left else "", **self.explained()}
-
-    def is_display_off(self) -> bool:
-        """Returns whether the display is empty because it is off."""
-        views, (mode, place) = self.views, self.views["pos"][0].split()
-        if views["display"][0]:
-            return False
-        lines = [(row[0], row[1]) for row in views["paged"]] if place[0] == "P" else [(line[:4], line[5:]) for line in views["lines"]]
-        before = [text for at, text in lines if at < place.removeprefix("P")]
-        seen = Seen(mode, "", views["alpha"][0], views["flags"][0], views["stack"][3])
-        return is_display_off(seen, self.pressed == self.made, before[-1] if before else "", [text for _, text in lines])
 
     def explained(self) -> dict[str, str]:
         """Returns what the next instruction or line is, what it does, in a sentence, and the name of a register that it changes; empty

@@ -37,16 +37,6 @@ class Seen(NamedTuple):
         return is_x or "48" in self.flags.split() and self.display == self.alpha
 
 
-def is_display_off(seen: Seen, pressed: bool, before: str, lines: list[str]) -> bool:
-    """Returns whether an empty display is off, which no view of the bench prints. It may also show an empty ALPHA, or an empty text in X.
-    Each accepted key turns the display on.
-
-    `pressed` is whether a key was accepted since the last step, `before` is the line before the position, and `lines` are the texts of
-    all lines."""
-    is_text = text_of(seen.x[2:]) == '""' or not seen.alpha and ("48" in seen.flags.split() or "AVIEW" in lines)
-    return not is_text or seen.is_idle and before == "OFF" and not pressed
-
-
 class Lights:
     """SHIFT and program mode, as they are after the last key."""
 

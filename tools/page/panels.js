@@ -151,8 +151,7 @@ let returns = {};           // the state whose return addresses were asked for: 
 let searching = null;       // what asks for them
 
 /** Returns whether the return addresses of a state are shown: not while a function in microcode runs, nor if no program is in memory. */
-const hasReturns = (state) => !state.pos[0].startsWith("Micro") &&
-  (state.pos[0].split(" ")[1].startsWith("P") || linesOf(state)[0].length > 1);
+const hasReturns = (state) => !state.pos[0].startsWith("Micro") && (state.pos[0].split(" ")[1].startsWith("P") || linesOf(state)[0].length > 1);
 
 /** Shows to which lines the program returns. They are asked for when the page has shown a state for a moment, because a second bench must
     execute the session again. Until it has answered, the page says that they are read. */

@@ -66,8 +66,13 @@ def memories() -> None:
         registers = registers_of(size, desk.deck().decode())
         row(f"the map of {size} registers", state["memory"], [*registers.values()])
         c = registers[0xD]
-        row(f"what register c says with {size} registers", state["divided"], [c[:3], "169", int(c[8:11], 16), int(c[11:], 16), True])
+        row(f"what register c says with {size} registers", state["divided"], [c[:3], "169", int(c[8:11], 16), int(c[11:], 16), True, True])
         row(f"the data registers of {size} registers", state["registers"][3], "01200000000001")
+        desk.give(f"words 8\n130 {c[11:]} 270 04E 2F0 3E0\nend\ncall 8000\nstep 5\n".encode())
+        while desk.queue:
+            desk.go(1)
+        row(f".END. is overwritten, with {size} registers", (desk.look()["divided"][4:], desk.bench.ask_all([b"step 2"])),
+            ([True, False], [["! 15 MemoryLost"]]))
         desk.bench.close()
     row("a register c that does not divide memory", [*Memory(["0" * 14] * 336, 0x200).divided()], ["000", "000", 0, 0, False])
 
@@ -95,6 +100,9 @@ def map_of_memory(visit: Visit) -> None:
     browser.run("return give('words 8\\n368 3E0\\nend\\ncall 8000\\nstep 2\\n')")
     sound = "return [by('divided').textContent.includes('memory is not sound'), document.querySelectorAll('#map .unknown').length]"
     visit.row("a memory that is not sound", sound, [True, 320])
+    browser.run("return give('reset\\nwords 9\\n130 19B 270 04E 2F0 3E0\\nend\\ncall 9000\\nstep 5\\n')")
+    lost = "return [by('divided').textContent.includes('memory is not sound'), document.querySelector('#map .lost').getAttribute('aria-label')]"
+    visit.row("a memory without .END.", lost, [True, "19B, program, whose .END. was overwritten, zero, changed"])
     browser.run("by('memory-panel').open = false")
     visit.anew()
 

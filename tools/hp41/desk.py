@@ -326,7 +326,7 @@ class Desk:
         memory = Memory([line[4:] for line in printed], self.top)
         mode, place = views["pos"][0].split()
         lists = self.lists_at(int(place, 16)) if mode == "Micro" else []
-        views["memory"], views["divided"] = memory.digits, [*memory.divided()]
+        views["memory"], views["divided"] = memory.digits, [*memory.divided(), memory.is_sound()]
         views["registers"] = memory.data_registers()
         views["values"] = [text_of(digits) for digits in views["registers"]]
         views["numbers"] = [text_of(line[2:]) for line in views["stack"]]

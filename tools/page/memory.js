@@ -7,6 +7,7 @@ const MAIN_START = 0xC0;
 const IN_A_ROW = [16, 8];
 // What a cell shows of its kind, and how it is called.
 const KINDS = { status: ["", "status register"], data: ["R", "data register"], program: ["p", "program"], end: ["E", "program with .END."],
+  lost: ["?", "program, whose .END. was overwritten"],
   free: ["·", "free"], unknown: ["?", "not divided"] };
 
 let cellShown = null;       // the address of the register whose digits are shown
@@ -18,10 +19,10 @@ const hexadecimal = (number) => number.toString(16).toUpperCase().padStart(3, "0
 const addressAt = (at) => at < STATUS_NAMES.length ? at : MAIN_START + at - STATUS_NAMES.length;
 
 /** Returns what a register is, by what register c says. */
-function kindOf(address, [, , curtain, end, isSound]) {
+function kindOf(address, [, , curtain, end, isDivided, isSound]) {
   if (address < STATUS_NAMES.length) return "status";
-  if (!isSound) return "unknown";
-  return address >= curtain ? "data" : address > end ? "program" : address === end ? "end" : "free";
+  if (!isDivided) return "unknown";
+  return address >= curtain ? "data" : address > end ? "program" : address < end ? "free" : isSound ? "end" : "lost";
 }
 
 /** Returns the name of a register, if it has one. */
@@ -82,8 +83,8 @@ function showMemory(state, before) {
   showCell(cellShown ?? STATUS_NAMES.indexOf("c"));
 }
 
-/** Draws what register c says. */
-function showDivided([statistics, constant, curtain, end, isSound]) {
+/** Draws what register c says, and whether memory is sound. */
+function showDivided([statistics, constant, curtain, end, , isSound]) {
   const parts = [[statistics, "first statistics register"], [constant, isSound ? "memory is sound" : "memory is not sound"],
     [hexadecimal(curtain), "the curtain, R00"], [hexadecimal(end), "the register of .END."]];
   fill("divided", ...parts.map(([digits, words]) => make("div", {}, make("dt", {}, digits), make("dd", {}, words))));

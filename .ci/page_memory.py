@@ -103,8 +103,19 @@ def map_of_memory(visit: Visit) -> None:
     browser.run("return give('reset\\nwords 9\\n130 19B 270 04E 2F0 3E0\\nend\\ncall 9000\\nstep 5\\n')")
     lost = "return [by('divided').textContent.includes('memory is not sound'), document.querySelector('#map .lost').getAttribute('aria-label')]"
     visit.row("a memory without .END.", lost, [True, "19B, program, whose .END. was overwritten, zero, changed"])
+    data_registers(visit)
     browser.run("by('memory-panel').open = false")
     visit.anew()
+
+
+def data_registers(visit: Visit) -> None:
+    """With each number of data registers, the map has the cells that ./bench shows. Without one there is no R00."""
+    for size in (0, 1, 100, 200, 319):
+        visit.anew()
+        deck = f"size {size}\nkey 7\nkey STO 0 0\n"
+        visit.browser.run("by('memory-panel').open = true; return give(arguments[0])", deck)
+        visit.row(f"the map with SIZE {size}", CELLS, map_by_bench("320", deck))
+        visit.row(f"the curtain with SIZE {size}", "return by('divided').textContent.includes('the curtain, R00')", size > 0)
 
 
 def sizes_in_browser(visit: Visit) -> None:

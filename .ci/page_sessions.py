@@ -1,5 +1,6 @@
 """Tries the time of a session on the page of tools/calculator: its slider, past states and the branches that begin there, runs to a line,
 and the last change of a value."""
+import json
 import os
 import signal
 from typing import Any
@@ -62,6 +63,24 @@ def branches_refused(page: Page) -> None:
     row("branches after an empty bench was started", page.ask(do="begin")["branches"], [])
 
 
+@on_page
+def found_displays(page: Page) -> None:
+    """A page asks whether an empty display is off. The other pages of the session then get the state with the answer."""
+    answer = page.give("program\nCLA\nOFF\nAVIEW\nend\nstep 2\n")
+    end = answer["states"]["at"] + len(answer["states"]["changes"])
+    row("an empty display, before a page has asked", answer["state"]["off"], None)
+    found = {"done": False}
+    while found["done"] is False:
+        found = page.ask(do="display", state=end, of=answer["session"])
+    row("whether the display is off", found, {"done": True, "off": True})
+    row("what another page gets of this state", json.loads(page.request("GET", "state")[2])["states"]["changes"][-1]["off"], True)
+    page.give("step\n")
+    changes = json.loads(page.request("GET", f"state?session={answer['session']}&at={end}")[2])["states"]["changes"]
+    row("what a page gets of the next state, if it has not asked", [change["off"] for change in changes], [None])
+    row("the display of a session that has ended", page.ask(do="display", state=end, of=-1), {"done": True, "off": None})
+    row("the display of a state that there is not", page.ask(do="display", state=999)[0], 409)
+
+
 # In a browser.
 
 def times(visit: Visit) -> None:
@@ -71,6 +90,8 @@ def times(visit: Visit) -> None:
     parts_of_runs(visit)
     runs_to_lines(visit)
     last_changes(visit)
+    displays_off(visit)
+    breaks_of_past(visit)
     for line, why in (("SIN", "command 4 was refused: ! 13 NotInProfile  line 02, SIN, is not supported (run 9999999)"),
                       ("STOP", "Stopped at 0002, before 0003 was reached")):
         visit.anew()
@@ -106,9 +127,66 @@ def runs_to_lines(visit: Visit) -> None:
     browser.run(f"return give({LOOP!r})")
     browser.run("return give('reset\\nprogram\\nLBL 01\\n1\\n+\\nSTO 05\\nGTO 01\\nend\\n')")
     browser.click("#program .line:nth-child(4) [data-at='to l0003']")
-    visit.row("a run to a line", "return [present().pos[0], by('refusal').textContent, present().breaks]", ["Run 0003", "At line 0003", []])
+    visit.row("a run to a line", "return [present().pos[0], by('refusal').textContent, present().breaks]",
+              ["Run 0003", "At position 0003", []])
     browser.click("#program .line:nth-child(4) [data-at='to l0003']")
     visit.row("a run to the same line", "return [present().pos[0], present().numbers[3]]", ["Run 0003", "2"])
+
+
+def displays_off(visit: Visit) -> None:
+    """While the display is off no annunciator is lit, and the sentence about the next line says so; in the file of the session too."""
+    browser = visit.browser
+    visit.anew()
+    browser.run("return give('program\\nSF 01\\nOFF\\nVIEW X\\nCLA\\nAVIEW\\nend\\nstep\\n')")
+    seen = "return [[...document.querySelectorAll('#lights .lit')].map((one) => one.textContent), " \
+           "by('next').textContent.split(': ').slice(2).join(': ')]"
+    on = "Stops the program, and turns the display off: it shows nothing until the next key that is accepted; the key R/S continues " \
+         "with the next line."
+    off = "Makes X, 0, the message of the display; the display is off until the next key that is accepted."
+    visit.row("the annunciators while the display is on", seen, [["1"], on])
+    browser.run("return step()")
+    visit.row("the annunciators while the display is off", seen, [[], off])
+    visit.row("a screen reader gets that the display is off", "return by('live').textContent", "display off")
+    browser.type("[")
+    visit.row("the annunciators before it was turned off", seen, [["1"], on])
+    browser.type("]")
+    visit.row("the annunciators after it was turned off", seen, [[], off])
+    browser.run("return step()")
+    visit.row("a message while the display is off", "return [by('lcd').dataset.text, present().off]", ["", True])
+    browser.run("return press(['SHIFT'])")
+    visit.row("the next key turns the display on", "return [by('lcd').dataset.text, present().off, by('lights').textContent]",
+              ["0.0000", False, "USERGRADRADSHIFT01234PRGMALPHA"])
+    visit.anew()
+
+
+def breaks_of_past(visit: Visit) -> None:
+    """A past state is shown with its breakpoints. A click on one acts in the present; the number of states after it is named."""
+    browser = visit.browser
+    browser.run("return give('program\\nCLX\\n+\\nend\\nbreak l 0\\nbreak l 1\\nunbreak l 0\\n')")
+    listed = "return [[...by('breaks').querySelectorAll('button')].map((one) => one.textContent), " \
+             "[...document.querySelectorAll('#program [aria-pressed=true]')].map((one) => one.dataset.at), by('past').hidden]"
+    visit.row("the breakpoints of the last state", listed, [["● position 0001"], ["l0001"], True])
+    earlier = "return by('past').querySelector('span').textContent"
+    browser.type("[")
+    visit.row("the breakpoints of the state before", listed, [["● position 0000", "● position 0001"], ["l0000", "l0001"], False])
+    visit.row("which state is shown", earlier, "This is an earlier state: 1 state before the last one.")
+    browser.type("[")
+    visit.row("the breakpoints two states before", listed, [["● position 0000"], ["l0000"], False])
+    visit.row("which state is shown then", earlier, "This is an earlier state: 2 states before the last one.")
+    browser.click("#program [data-at='l0001']")
+    visit.row("a breakpoint that is set already in the present", "return [present().breaks, by('past').hidden, by('refusal').textContent]",
+              [[["l", "0001"]], True, "The breakpoint at position 0001 is set already in the present state"])
+    browser.type("[", "[")
+    visit.quiet()
+    browser.click("#breaks .break")
+    visit.row("a breakpoint that is removed already in the present", "return [present().breaks, by('refusal').textContent]",
+              [[["l", "0001"]], "The breakpoint at position 0000 is removed already in the present state"])
+    browser.type("[", "[", "[")
+    visit.quiet()
+    browser.click("#program [data-at='l0000']")
+    visit.row("a breakpoint that is set from a past state", "return [present().breaks, by('past').hidden]",
+              [[["l", "0000"], ["l", "0001"]], True])
+    visit.anew()
 
 
 def last_changes(visit: Visit) -> None:

@@ -128,3 +128,53 @@ SETS:   ST=0
         C=ST
         T=ST
         RTN
+; requires C.SX is BCD, BCD(C.SX) < 3E7
+; ensures BCD(C.SX) = BCD(old C.SX) + 1, MODE = DEC, in 5 steps
+INDEC:  ?NC XQ :TODEC
+        C=C+1 S&X
+        RTN
+; ensures C as before, in 2 steps
+TODEC:  SETDEC
+        RTN
+; ensures old A.SX + old C.SX >= 1000 * S8, A.SX + 1000 * S8 = old A.SX + old C.SX, within 5 steps
+CARRY:  CLRF 8
+        A=A+C S&X
+        ?NC RTN
+        SETF 8
+        RTN
+; requires C.SX <= 19A
+; ensures C.SX = 19A, within 7 * 411 + 1 steps
+UPTO:   NOP
+; decreases 19A - C.SX
+UPTO_1: A=C S&X
+        LDI 19A
+        ?A<C S&X
+        ?NC RTN
+        A=A+1 S&X
+        A<>C S&X
+        JNC :UPTO_1
+; requires A.SX = 0, B.SX = 0
+; ensures A.SX = C.SX, B.SX = C.SX, C as before, in 5 * C.SX + 3 steps
+EACH:   NOP
+; invariant A.SX <= C.SX, B.SX = A.SX, C as before
+; decreases old C.SX - A.SX
+EACH_1: ?A<C S&X
+        ?NC RTN
+        A=A+1 S&X
+        B=A S&X
+        JNC :EACH_1
+; ensures A.SX = old C.SX, C as before, within 4 steps
+SAME:   ?NC XQ :COPY
+        RTN
+; ensures A.SX = C.SX
+COPY:   A=C S&X
+        RTN
+; requires A.SX <= C.SX
+; ensures A.SX = C.SX, C as before, within 4 * C.SX + 5 steps
+REACH:  NOP
+; invariant A.SX <= C.SX
+; decreases C.SX - A.SX
+REACH_1: ?A<C S&X
+        ?NC RTN
+        A=A+1 S&X
+        JNC :REACH_1

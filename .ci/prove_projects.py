@@ -39,7 +39,7 @@ FALSE_PROJECTS: list[tuple[dict[str, str], list[str]]] = [
               lib="UP: C=C+1 S&X\nRTN\n"),
      ["main.asm:2: `BCD(C.SX) = BCD(old C.SX) + 1`: false: from C=", "999 MODE=DEC it leaves C=", "the left side is 0, the right side is 3E8"]),
     # The function of page 9 exchanges A and C, and B is never set.
-    (files_of("; ensures B.M = old C.M\nF: ?NC XQ :SWAP\nRTN\n", lib="SWAP: A<>C M\nRTN\n"), ["main.asm:1: `B.M = old C.M`: false: from B="]),
+    (files_of("; ensures B.M = old C.M\nF: ?NC XQ :SWAP\nRTN\n", lib="SWAP: A<>C M\nRTN\n"), ["main.asm:1: `B.M = old C.M`: false: from A=", " B="]),
     # The field is doubled until its highest digit is not zero. This ends for all numbers but zero.
     (files_of("; ensures within 63 steps\nF: ?C#0 XS\n?C RTN\n?NC XQ :TWICE\nJNC :F\n", lib="TWICE: C=C+C S&X\nRTN\n"),
      ["main.asm:1: `returns`: false: from ", "000 M=", "it has not returned after 100,000 steps"]),

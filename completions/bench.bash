@@ -27,7 +27,7 @@ _bench_options() {
         bench-list) echo '--page --bank --help' ;;
         bench-module) echo '--out --images --junk --no-junk --trace --junit --table --call --write --values --help' ;;
         bench-play) echo '--size --memory --steps --skip --tone --workers --script --shard --join --help' ;;
-        bench-prove-module) echo '--page --try --keep --libraries --help' ;;
+        bench-prove-module) echo '--page --try --keep --libraries --verbose --help' ;;
         bench-registers) echo '--memory --all --deck --page --help' ;;
         bench-trace) echo '--memory --labels --function --explain --watch --help' ;;
         bench-where) echo '--memory --brief --labels --help' ;;

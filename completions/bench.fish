@@ -102,6 +102,7 @@ complete -c bench-prove-module -l page -x -a '4 5 6 7 8 9 A B C D E F'
 complete -c bench-prove-module -l try
 complete -c bench-prove-module -l keep
 complete -c bench-prove-module -l libraries
+complete -c bench-prove-module -l verbose
 complete -c bench-prove-module -l help
 complete -c bench-registers -l memory -x -a '64 128 192 256 320'
 complete -c bench-registers -l all

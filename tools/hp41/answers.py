@@ -8,18 +8,19 @@ import subprocess
 import sys
 import tempfile
 import threading
-from typing import TYPE_CHECKING, Any, Callable, Optional
+from typing import TYPE_CHECKING, Any, Callable, Optional, TypeVar, cast
 
 from . import TOOLS
 from .decks import MARKS_OF_UTF16, NO_ANSWER, Failure, bytes_of, lines_of, shown
 from .branches import Branch, Branches
 from .brought import Brought
 from .desk import PAGES, Desk
+from .displays import Darkness
 from .keyboard import ROWS, places
 from .lessons import Lesson, OpenLesson, grouped, lessons
 from .parts import parts_of, refusal_of
 from .recorded import recorded
-from .repeating import Repeat
+from .repeating import Repeat, Search
 from .refusals import Refused, look_into_blocks
 from .returns import Returns
 from .unsupported import unsupported
@@ -34,6 +35,8 @@ MOST_FILES = 16
 # Quotes that a word processor writes, and that the bench does not read.
 QUOTES = re.compile("[“”„‘’«»]")
 
+
+Found = TypeVar("Found", bound=Search)
 
 # A request of the page, and its answer, as JSON has them.
 Request = dict[str, Any]
@@ -81,7 +84,8 @@ class Answers:
         self.last_id: Any = None
         self.desk = Desk(memory)
         self.repeat: Optional[Repeat] = None
-        self.returns: Optional[Returns] = None
+        # What is searched for in states, by the names of the requests.
+        self.searches: dict[str, Search] = {}
         # The files that were imported last.
         self.brought: Optional[Brought] = None
         self.unsupported = unsupported()
@@ -117,7 +121,7 @@ class Answers:
     def recorded(self) -> bytes:
         """Returns the session as a page that needs no server, as bytes."""
         with self.lock:
-            return recorded({**self.told({}), "branches": [], "lesson": None, "pages": self.desk.plugged()})
+            return recorded({**self.told({}), "branches": [], "lesson": None})
 
     # The state of the session.
 
@@ -168,7 +172,7 @@ class Answers:
         calls: dict[str, Callable[[Request], Optional[Reply]]] = {
             "give": self.give, "go": self.go, "stop": self.stop, "next": self.next, "lesson": self.open_lesson,
             "open": self.open, "again": self.again, "begin": self.begin, "causes": self.causes_of, "list": self.listed,
-            "pages": self.pages, "branch": self.branch, "past": self.past, "returns": self.returning}
+            "pages": self.pages, "branch": self.branch, "past": self.past, "returns": self.returning, "display": self.display}
         call = calls.get(name)
         if call is None:
             raise ValueError(name)
@@ -289,26 +293,44 @@ class Answers:
 
     def forget(self) -> None:
         """Ends the benches that execute the session again."""
-        for one in (self.repeat, self.returns):
+        for one in (self.repeat, *self.searches.values()):
             if one:
                 one.close()
-        self.repeat = self.returns = None
+        self.repeat, self.searches = None, {}
 
-    def returning(self, asked: Request) -> Reply:
-        """Returns whether the return addresses of the program in a state are found, and these; None if they cannot be found, for example
-        because another session has begun since the page asked about a state of the session with the number `of`."""
+    def search(self, asked: Request, begin: Callable[[Desk, int], Found]) -> tuple[bool, Optional[Found]]:
+        """Goes on with the search in a state that a request names, which `begin` begins. Returns whether it is at its end, and the search;
+        None if another session has begun since the page asked about a state of the session with the number `of`."""
         if asked.get("of", self.desk.number) != self.desk.number:
-            return {"done": True, "returns": None}
-        number = self.state_in(asked)
+            return True, None
+        number, name = self.state_in(asked), asked["do"]
         try:
-            if self.returns is None or self.returns.key != (self.desk.number, number):
-                if self.returns:
-                    self.returns.close()
-                self.returns = Returns(self.desk, number)
-            return {"done": self.returns.go(LONGEST_GO), "returns": self.returns.found}
+            one = self.searches.get(name)
+            if one is None or one.key != (self.desk.number, number):
+                if one:
+                    one.close()
+                one = self.searches[name] = begin(self.desk, number)
+            return one.go(LONGEST_GO), cast(Found, one)
         except Failure as failure:
             self.forget()
             raise again(failure) from failure
+
+    def returning(self, asked: Request) -> Reply:
+        """Returns whether the return addresses of the program in a state are found, and these; None if they cannot be found, with the
+        reason. The state is kept with them and the reason."""
+        is_done, one = self.search(asked, Returns)
+        if is_done and one:
+            self.desk.history.amend(self.state_in(asked), {"returns": [one.found, one.why]})
+        return {"done": is_done, "returns": one.found if one else None, "why": one.why if one else ""}
+
+    def display(self, asked: Request) -> Reply:
+        """Returns whether it is found if the display is off in a state, and whether it is; None if this cannot be found. The state is kept
+        with it."""
+        is_done, one = self.search(asked, Darkness)
+        found = one.found if one else None
+        if found is not None:
+            self.desk.history.amend(self.state_in(asked), {"off": found})
+        return {"done": is_done, "off": found}
 
     def open_lesson(self, asked: Request) -> None:
         """Opens a lesson at its first step."""

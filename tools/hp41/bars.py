@@ -2,6 +2,7 @@
 import re
 from typing import Iterator, List, Tuple
 
+from .counts import counted
 from .records import PROGRAM, Part, ends_of, length_at
 
 MOST_IN_ROW = 13
@@ -112,7 +113,7 @@ def checked(values: List[Tuple[int, int]], line: int, row: int, before: int, pro
     """Returns the checksum of a row. `before` is that of the row before it, and `program` has the bytes of all rows before it."""
     data, columns = bytes(value for value, _ in values), [column for _, column in values]
     if not HEAD_OF_ROW < len(data) <= HEAD_OF_ROW + MOST_IN_ROW:
-        raise Unreadable(line, 1, f"{len(data)} bytes", f"{HEAD_OF_ROW + 1} to {HEAD_OF_ROW + MOST_IN_ROW} in a row")
+        raise Unreadable(line, 1, counted(len(data), "{} byte", "{} bytes"), f"{HEAD_OF_ROW + 1} to {HEAD_OF_ROW + MOST_IN_ROW} in a row")
     wanted = running_sum(before, data[1:])
     if data[1] >> 4 not in TYPES:
         raise Unreadable(line, columns[1], f"the type {data[1] >> 4:X}", "1 (program) or 2 (private program)")

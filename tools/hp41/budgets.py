@@ -5,8 +5,8 @@ from fractions import Fraction
 from typing import Callable, Iterable
 
 from .activebanks import PAGES
-from .claims import Sum
-from .codes import Loop, NotProved, Result, form_of
+from .codes import Loop, NotProved, Result, form_of, measure_of
+from .counts import counted
 from .knowledge import Knowledge
 from .linear import Row, contradicts, row
 from .symbols import Fact, Form, Key, Node, Span, keys_in, literal, start_of
@@ -51,9 +51,12 @@ def limit(know: Knowledge, key: Key, passed: list[Fact], seen: frozenset[Key] = 
 
 def traced_back(know: Knowledge, found: tuple[dict[Key, Fraction], Fraction], passed: list[Fact],
                 seen: frozenset[Key]) -> Form | None:
-    """Returns a sum over the state in which the function begins for another sum; None if there is none, or if a factor is no integer."""
+    """Returns a sum over the state in which the function begins for another sum, which is at most this; None if there is none, or if a
+    factor is no integer. A number that is subtracted counts only if it is one of this state."""
     total: dict[Key | None, Fraction] = {None: found[1]}
     for key, many in found[0].items():
+        if many < 0 and not is_of_start(key):
+            continue
         part = limit(know, key, passed, seen)
         if part is None:
             return None
@@ -74,8 +77,8 @@ def most(know: Knowledge, form: Form, passed: list[Fact]) -> int:
     """Returns the largest value of a sum that is not excluded by what is known."""
     rows = [one for fact in know.reach(keys_in(form), passed, False) for one in fact.rows]
     low = 0
-    high = form.get(None, 0) + sum(many * (key.base ** (key.hi + 1 - key.lo) if isinstance(key, Span) else 0x10000)
-                                   for key, many in form.items() if key is not None)
+    high = max(0, form.get(None, 0)) + sum(many * (key.base ** (key.hi + 1 - key.lo) if isinstance(key, Span) else 0x10000)
+                                           for key, many in form.items() if key is not None and many > 0)
     while low < high:
         middle = (low + high) // 2
         if contradicts([*rows, *row({None: middle + 1}, "<=", {**form})]):
@@ -160,21 +163,21 @@ def give_budgets(result: Result) -> None:
     while left:
         node = left.pop()
         if node.form[0] == "enter":
-            check(node.budget, lambda taken: f"the function takes {taken} steps before its loop")
+            check(node.budget, lambda taken: f"the function takes {counted(taken, '{} step', '{} steps')} before its loop")
             continue
         for after in node.nexts:
             after.budget = left_after(know, node.budget, node.spent or {None: 1}, node.passed)
             if node.spent:
-                check(after.budget, lambda taken: f"the function takes up to {taken} steps, or more")
+                check(after.budget, lambda taken: f"the function takes up to {counted(taken, '{} step', '{} steps')}, or more")
             left.append(after)
         if node.form[0] in ("end", "split"):
-            check(minus(node.budget, {None: 1}), lambda taken: f"the function takes up to {taken} steps")
+            check(minus(node.budget, {None: 1}), lambda taken: f"the function takes up to {counted(taken, '{} step', '{} steps')}")
     for loop in result.loops:
         if loop.after:
-            rests = [left_after(know, budget, rounds_of(loop, node, result.is_exact), node.passed)
+            rests = [left_after(know, budget, rounds_of(result, loop, node), node.passed)
                      for node, budget in entries_of(result, loop)]
             rest = min(rests, key=lambda one: one.get(None, 0))
-            check(rest, lambda taken: f"the function takes up to {taken} steps before the loop "
+            check(rest, lambda taken: f"the function takes up to {counted(taken, '{} step', '{} steps')} before the loop "
                                                           f"{loop.after.label if loop.after else ''}, or more")
             loop.after.budget = rest
 
@@ -185,9 +188,9 @@ def entries_of(result: Result, loop: Loop) -> list[tuple[Node, Form]]:
     return [(node, loop.budget if any(node is one for one in leaves) else node.budget) for node in loop.entries]
 
 
-def rounds_of(loop: Loop, node: Node, is_exact: bool) -> Form:
+def rounds_of(result: Result, loop: Loop, node: Node) -> Form:
     """Returns the steps of all rounds of a loop that is entered in a node."""
-    measure = form_of(loop.contract.decreases or Sum(), node.state, node.state)
+    measure, is_exact = measure_of(loop, node.state, result.root.state), result.is_exact
     rounds: Form = {key: loop.steps * many for key, many in measure.items()}
     rounds[None] = rounds.get(None, 0) + (loop.last_steps if is_exact else loop.steps)
     return rounds

@@ -6,6 +6,7 @@ from collections.abc import Iterable, Iterator
 from typing import NamedTuple
 
 from .cases import TARGET, Case
+from .counts import counted
 from .decks import BENCH, LONGEST_DECK, NO_ANSWER, Failure, bytes_of, ended, hexadecimal, lines_of, refused, running, shown, with_keys
 from .keyboard import KEYS
 from .linking import Linked
@@ -188,7 +189,7 @@ class Caller:
                 try:
                     found.append(result_of(call, views, lines))
                 except StopIteration as why:
-                    when = f"after it answered {len(found)} of {len(calls)} cases, before {call.case.name()}"
+                    when = f"after it answered {len(found)} of {counted(len(calls), '{} case', '{} cases')}, before {call.case.name()}"
                     raise Failure(f"{self.linked.project.path}: {ended(self.status, when)}", NO_ANSWER) from why
         return found
 

@@ -9,6 +9,7 @@ from typing import Callable, Dict, Iterable, Iterator, List, NamedTuple, Optiona
 
 from . import listings, programs
 from .containers import BY_NAME, FREE42, Member, members_of
+from .counts import counted
 from .decks import MARK_OF_UTF8, MARKS_OF_UTF16, Failure, answered, block, ended, hexadecimal, shown
 from .doubts import PRIVATE, PRIVATE_ROWS, Doubt, at_places, of_bytes, of_line, parted
 from .exchange import Count, counts_in, wanted_counts
@@ -371,7 +372,8 @@ def wrong_count(program: Program, lines: List[Tuple[int, str]]) -> str:
         sized.append((text, bytes([0x10 if is_number else 0x40]) * (after - at - nulls)))
     wanted = wanted_counts(sized)
     return "" if program.head.bytes in wanted else (
-        f"line {program.head.line}: `{program.head.text}`: found {program.head.bytes} bytes in the head, expected {wanted[0]}")
+        f"line {program.head.line}: `{program.head.text}`: found {counted(program.head.bytes, '{} byte', '{} bytes')} in the head, "
+        f"expected {wanted[0]}")
 
 
 def hashed(data: bytes) -> str:

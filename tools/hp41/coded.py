@@ -4,7 +4,7 @@ from typing import Iterable, Iterator, Optional, Sequence, Union
 
 from .decks import answered
 from .records import length_at
-from .typed import LONGEST_NAME, NoKeys, is_number, line_keys, text_keys
+from .typed import LONGEST_NAME, NoKeys, is_number_line, line_keys, text_keys
 
 # Bytes of which each is a digit, a sign, a point or an exponent of a number.
 NUMBER = re.compile(rb"[\x10-\x1c]+")
@@ -62,7 +62,7 @@ END_OF_NUMBER = "ALPHA ALPHA"
 def apart(texts: list[str], found: list[list[str]]) -> list[list[str]]:
     """Returns the lines with keys that type each of them directly after the one before it: digits, and CHS, would change a number there."""
     for before, text, row in zip(texts, texts[1:], found[1:]):
-        if row[2] and is_number(before) and (is_number(text) or text == "CHS"):
+        if row[2] and is_number_line(before) and (is_number_line(text) or text == "CHS"):
             row[2] = f"{END_OF_NUMBER} {row[2]}"
     return found
 

@@ -47,7 +47,7 @@ class Bank(NamedTuple):
 class Code:
     """The instructions of a source, or of the sources of a project, by place, their banks, and the places of labels with contracts.
     `origins` has the file and the number of each line: the lines of all sources are counted as those of one. `names` has the names of
-    labels as they are shown, and `free` a page that a project does not use."""
+    labels as they are shown, `texts` the instructions of lines as the source has them, and `free` a page that a project does not use."""
     banks: list[Bank]
     instructions: dict[int, Instruction]
     labels: dict[str, int]
@@ -55,6 +55,7 @@ class Code:
     lines: dict[str, int] = field(default_factory=dict)
     origins: list[tuple[str, int]] = field(default_factory=list)
     names: dict[str, str] = field(default_factory=dict)
+    texts: dict[int, str] = field(default_factory=dict)
     free: str = ""
 
     @property
@@ -70,6 +71,11 @@ class Code:
     def line_of(self, label: str) -> int:
         """Returns the source line of a label with a contract."""
         return self.lines.get(label, 0)
+
+    def numbered(self, line: int, near: int) -> str:
+        """Returns a source line as text: its number, and its file if it is another one than that of a second line."""
+        path, number = self.origins[line - 1]
+        return f"line {number}{f' of {path}' if path != self.origins[near - 1][0] else ''}"
 
     def shown(self, label: str) -> str:
         """Returns the name of a label: in a project with its page, its bank and its address."""
@@ -227,7 +233,12 @@ def form_of(one: Sum, now: State, before: State) -> Form:
             found[None] = found.get(None, 0) + many * int(key)
         else:
             found[key] = found.get(key, 0) + many
-    return found
+    return {key: many for key, many in found.items() if many}
+
+
+def measure_of(loop: Loop, state: State, start: State) -> Form:
+    """Returns the number that each round of a loop makes smaller, in a state. `start` is the state in which the function begins."""
+    return form_of(loop.contract.decreases or Sum(), state, start)
 
 
 def negative_free(left: Sum, right: Sum) -> tuple[Sum, Sum]:

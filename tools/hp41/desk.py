@@ -15,7 +15,7 @@ from .coded import Typing, coded
 from .decks import LONGEST_DECK, MEMORY, NO_ANSWER, Failure, lines_of
 from .decks import text_of as text_of_line
 from .keyboard import KEYS
-from .explaining import is_carrying, of_line, of_word
+from .explaining import Explained, is_carrying, of_line, of_word
 from .foreseen import Around, program_at, program_in_page
 from .history import History, Place, State
 from .lessons import OpenLesson
@@ -237,6 +237,7 @@ class Desk:
 
     def carry_piece(self, part: Part, kind: str, entry: Entry, most: Optional[int]) -> None:
         """Executes the next piece of a run, of a step with a count, or of a trace. Pieces become longer while they are fast."""
+        self.lights.is_on = False
         count = min(part.left, self.size, most or self.size)
         begun = time.monotonic()
         reply = self.bench.ask_all([b"%s %d" % (kind.encode(), count)])[0]
@@ -345,7 +346,7 @@ class Desk:
     def place(self, made: int) -> Place:
         """Returns the place of the state in the session; `made` are the steps since the state before."""
         steps = self.queue[0].asked if self.doing() is not None else 0
-        return Place(len(self.log), steps, made, self.lights.shift, self.lights.program)
+        return Place(len(self.log), steps, made, self.lights.shift, self.lights.program, self.lights.is_on)
 
     def skip(self) -> None:
         """Notes where the state is, without reading it."""
@@ -397,23 +398,39 @@ class Desk:
         return {**self.views, "shift": self.lights.shift, "program": self.lights.program,
                 "breaks": sorted([kind, place] for kind, place in self.breaks), "spells": spells,
                 "writable": sorted([page, bank] for page, bank in self.names.written if (page, bank) in self.names.known),
-                "keys_if": self.lights.keys_if(display, flags, is_name),
+                "plugged": self.names.told(), "keys_if": self.lights.keys_if(display, flags, is_name), "off": self.is_off(), "returns": None,
                 "label": self.labels.of(self.views["pos"][0].split()[1]) if self.views["listing"] else "",
                 "last": self.log[-1].told() if self.log else ["", []], "entries": len(self.log),
                 "doing": (self.doing() or b"").decode() if self.queue and self.queue[0].left else "", **self.explained()}
 
-    def explained(self) -> dict[str, str]:
+    def is_off(self) -> Optional[bool]:
+        """Returns whether the display is off: not if it shows something, or if a key has just turned it on; None if this is not known."""
+        return False if self.views["display"][0] or self.lights.is_on else None
+
+    def explained(self) -> dict[str, object]:
         """Returns what the next instruction or line is, what it does, in a sentence, and the name of a register that it changes; empty
-        texts if this is not known."""
-        views, (mode, place) = self.views, self.views["pos"][0].split()
-        if mode == "Micro":
-            words, text = next(((text[:9].strip(), text[9:]) for at, _, text in views["listing"] if at == place), ("", ""))
-            around = Around(pages=views["pages"], writable=self.names.pages(True), protected=self.names.pages(False), top=self.top)
-            after = self.beside.after(words, views["cpu"]) if is_carrying(text) else None
-            one = of_word(text, views["cpu"], after, around)
-            return {"word": text, "next": one.sentence(), "asks": one.asks()}
+        texts if this is not known. If it is not known whether the display is off, `nexts` are the sentences for one that is on and for
+        one that is off."""
+        one = self.next_word() if self.views["pos"][0].startswith("Micro") else self.next_line()
+        if one is None:
+            return {"word": "", "next": self.why_no_line, "nexts": [], "asks": ""}
+        is_off = self.is_off()
+        nexts = [one.sentence(other) for other in (False, True)] if is_off is None else []
+        return {"word": one.text, "next": one.sentence(is_off), "nexts": nexts if len(set(nexts)) > 1 else [], "asks": one.asks()}
+
+    def next_word(self) -> Explained:
+        """Returns what is said about the next instruction."""
+        views, place = self.views, self.views["pos"][0].split()[1]
+        words, text = next(((text[:9].strip(), text[9:]) for at, _, text in views["listing"] if at == place), ("", ""))
+        around = Around(pages=views["pages"], writable=self.names.pages(True), protected=self.names.pages(False), top=self.top)
+        after = self.beside.after(words, views["cpu"]) if is_carrying(text) else None
+        return of_word(text, views["cpu"], after, around)
+
+    def next_line(self) -> Optional[Explained]:
+        """Returns what is said about the next program line; None if no line can be read."""
+        views, place = self.views, self.views["pos"][0].split()[1]
         if not views["line"]:
-            return {"word": "", "next": self.why_no_line, "asks": ""}
+            return None
         held = [(line[:4], line[5:]) for line in views["lines"]]
         at, text = views["line"]
         is_page = place[0] == "P"
@@ -424,7 +441,7 @@ class Desk:
         one.error()
         if one.unsure:
             one.is_over = self.is_over(*one.unsure)
-        return {"word": text, "next": one.sentence(), "asks": one.asks()}
+        return one
 
     def is_over(self, line: str, register: str) -> Optional[bool]:
         """Returns whether the bench beside finds the result of a line out of range; R00 in the line is this data register."""

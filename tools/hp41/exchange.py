@@ -3,6 +3,8 @@ docs/OLD-PROGRAMS.md has their layouts; the other spellings are those of docs/PR
 import re
 from typing import Callable, Dict, List, NamedTuple, Tuple
 
+from .counts import counted
+
 # The head that Free42 writes before each program, with the number of its bytes.
 HEAD = re.compile(r"\s*(?:0+\s+)?\{\s*([0-9]+)-Byte Prgm\s*\}\s*", re.I)
 CODE = re.compile(r"\\x([0-9A-Fa-f]{2})|\\\\|\\\"")
@@ -60,8 +62,9 @@ def wrong_counts(lines: List[str], program: List[Tuple[int, str]],
         texts = [text for number, text in program if count.line < number <= count.last and text != ".END."]
         wanted = wanted_counts(bytes_of(texts) if texts else [])
         if count.bytes not in wanted:
-            errors.append((count.line, f"`{count.text}`: found {count.bytes} bytes in the head, expected {wanted[0]} for the lines below "
-                                       f"({wanted[-1]} with nulls after numbers and the END): a line is missing or changed"))
+            errors.append((count.line, f"`{count.text}`: found {counted(count.bytes, '{} byte', '{} bytes')} in the head, expected "
+                                       f"{wanted[0]} for the lines below ({wanted[-1]} with nulls after numbers and the END): a line is "
+                                       "missing or changed"))
     return errors
 
 

@@ -7,10 +7,11 @@ from .activebanks import PAGES, ActiveBanks
 from .budgets import reachable, summarise
 from .claimproofs import prepare
 from .claims import AnyClaim, Claim, Decimal, Others, Sum
-from .codes import ADDRESSES, Code, Loop, NotProved, Result, form_of, key_of, known_at_start, plain, register_of
+from .codes import ADDRESSES, Code, Loop, NotProved, Result, form_of, key_of, known_at_start, measure_of, plain, register_of
 from .knowledge import Knowledge
 from .linear import contradicts, row
-from .symbols import WIDE, Fact, Node, Ram, Span, State, Value, Way, keys_in, literal, start_of
+from .linked import Known
+from .symbols import WIDE, Fact, Form, Node, Ram, Span, State, Value, Way, form_text, keys_in, literal, start_of
 from .wordsteps import Step
 
 # How many states a function may reach.
@@ -177,11 +178,13 @@ class Execution:
                           (at, f"At_{loop.label} {name if left is None else f'(suc {name})' if left else '0'} {t}")]
         self.unknown(node, t, at, loop.names)
         node.passed = list(self.nodes[0].passed)
-        measure = form_of(loop.contract.decreases or Sum(), node.state, node.state)
-        counted = {name: 1, None: left or 0} if left != 0 else {}
+        measure = measure_of(loop, node.state, self.nodes[0].state)
+        counted: Form = {name: 1, None: left or 0} if left != 0 else {}
         keys = (*keys_in(measure), *([name] if left != 0 else []))
-        node.passed.append(Fact(f"{at}.counted", "", "", keys, node, row(counted, "=", measure), True))
-        self.assume(node, loop.contract.invariant, self.nodes[0].state, f"{at}.invariant")
+        known = Known(t, f"{at}.is", "s")
+        proof = known.counted(node, loop.contract.decreases or Sum(), self.nodes[0].state, form_text(counted), f"{at}.counted")
+        node.passed.append(Fact(proof, "", "", keys, node, row(counted, "=", measure), True))
+        self.assume(node, loop.contract.invariant, self.nodes[0].state, f"{at}.invariant", known)
         return node
 
     def unknown(self, node: Node, t: str, known: str, names: Sequence[str] | set[str]) -> None:
@@ -193,17 +196,21 @@ class Execution:
         if "ram" in names:
             self.knowledge.rams[f"{t}.ram"] = Ram(f"{t}.ram", "other", node, f"{known}.memory")
 
-    def assume(self, node: Node, claims: Sequence[AnyClaim], before: State, name: str) -> None:
-        """Adds claims that are true at a node: requirements, an invariant, or what a function that was called has left."""
+    def assume(self, node: Node, claims: Sequence[AnyClaim], before: State, name: str, known: Known | None = None) -> None:
+        """Adds claims that are true at a node: requirements, an invariant, or what a function that was called has left. `known` says what
+        the state is of which only these claims are known."""
         self.cut(claims)
         for at, claim in enumerate(claims, 1):
+            proof = f"{name}_{at}"
+            if known and isinstance(claim, (Claim, Decimal)):
+                proof = known.claimed(node, claim, before, proof)
             if isinstance(claim, Claim):
                 left, right = (form_of(side, node.state, before) for side in (claim.left, claim.right))
-                node.passed.append(Fact(f"{name}_{at}", "", "", keys_in(left, right), node, row(left, claim.relation, right), True))
+                node.passed.append(Fact(proof, "", "", keys_in(left, right), node, row(left, claim.relation, right), True))
             if isinstance(claim, Decimal):
                 key = key_of(claim.atom, before if claim.atom.old else node.state)
                 assert isinstance(key, Span)
-                self.knowledge.decimals.declare(key, f"{name}_{at}")
+                self.knowledge.decimals.declare(key, proof)
             if isinstance(claim, Others) and node.state.of("ram") != before.of("ram"):
                 ram = self.knowledge.rams[node.state.of("ram")]
                 ram.others, ram.proof, ram.before = claim.addresses, f"{name}_{at}", before.of("ram")

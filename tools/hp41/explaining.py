@@ -6,7 +6,7 @@ from typing import Callable, NamedTuple, Optional, Union
 
 from . import TOOLS
 from .decks import bytes_of
-from .foreseen import STACK_NUMBERS, Around, Error, Foreseen, register
+from .foreseen import END_OF_FUNCTION, STACK_NUMBERS, Around, Error, Foreseen, register
 
 TABLE = os.path.join(TOOLS, "explanations")
 
@@ -20,6 +20,8 @@ WITHIN = ("{value}", "{indirect}", "{flag}")
 VALUE_COMMA = "\0"
 # A text that a name of a function cannot be.
 NO_FUNCTION = re.compile(r"[0-9.E+-]{2,}|[0-9.E]|NEG.*|[\">].*|LBL .*|\.?END\.?")
+# What is added to a sentence about the display if it is not known whether the display is off.
+IF_OFF = " If the display is off, it stays off until the next key that is accepted."
 # Where a sentence is cut if its step fails: what follows is what would happen afterwards.
 CUT = re.compile(r"; |, after lifting |\.$")
 # What is said of the line after a test or a loop.
@@ -56,7 +58,7 @@ def rows() -> dict[str, list[Row]]:
 
 
 def row_of(text: str, kind: str) -> tuple[Optional[Row], Optional[re.Match[str]]]:
-    """Returns the row for a text, and the match of its pattern; None and None if there is none. `kind` is words or lines."""
+    """Returns the row for a text, and the match of its pattern; None and None if there is none. `kind` is words, lines or display off."""
     for row in rows()[kind]:
         found = row.pattern.fullmatch(text)
         if found:
@@ -116,21 +118,24 @@ class Explained:
         is_other = lines is None or f"LBL {name}" in lines or any(line[11:] == name[1:-1] for line in functions)
         return None if not name or is_other else self.function(name[1:-1])
 
-    def sentence(self) -> str:
-        """Returns the sentence; an empty text if the table has no row."""
+    def sentence(self, is_off: Optional[bool] = False) -> str:
+        """Returns the sentence; an empty text if the table has no row. `is_off` is whether the display is off; None if this is not
+        known."""
         if self.row is None:
             return ""
         if not self.is_supported():
             return f"{self.text} is not supported: the step is refused."
         called = self.called()
         if called:
-            told = called.sentence()
+            told = called.sentence(is_off)
             return told if told.startswith(called.text) else f"Executes the function {called.text}: {told[0].lower()}{told[1:]}"
-        error = self.error()
+        error, row_if_off = self.error(), row_of(self.text, "display off")[0]
+        sentence = row_if_off.sentence if is_off and row_if_off else self.row.sentence
         if error is None:
-            told = self.filled(SKIPPED.sub(self.skips(), self.row.sentence))
+            is_doubtful = is_off is None and row_if_off is not None and "display?" not in self.row.changes
+            told = self.filled(SKIPPED.sub(self.skips(), sentence)) + (IF_OFF if is_doubtful else "")
             return told + (" The result may be OUT OF RANGE." if self.unsure else "")
-        done = self.filled(CUT.split(self.row.sentence)[0])
+        done = self.filled(CUT.split(sentence)[0])
         if self.is_word or error.message.endswith(")"):
             return f"{done}, but the step is refused as {error.message}: {error.cause}."
         ignored = "; flag 25 is set, so the error is ignored, and the flag is cleared"
@@ -157,10 +162,13 @@ class Explained:
         return f"{part}," if ", " in part else part
 
     def asks(self) -> str:
-        """Returns the name of a register that the step changes, whose next value can be asked for; an empty text if there is none."""
-        for change in self.row.changes if self.row else []:
+        """Returns the name of a register that the step changes, whose next value can be asked for; an empty text if there is none, or if
+        the step fails."""
+        if self.row is None or self.is_refused() or self.error():
+            return ""
+        for change in self.row.changes:
             name = re.split("[.=?]", change)[0].strip("{}")
-            name = self.part_R() if name == "R" else self.named(name)
+            name = Foreseen(self, self.around).target() if name == "R" else self.named(name)
             if ASKED.fullmatch(name):
                 return name
         return ""
@@ -256,6 +264,14 @@ class Explained:
     def part_taken(self) -> str:
         """Returns whether a jump is taken."""
         return "it does" if self.values.get("CY") == self.part_wanted() else "it does not; the next word follows"
+
+    def part_returns(self) -> str:
+        """Returns where the newest return address leads: to a word, or to the end of the function."""
+        address = self.part_return()
+        if address != f"{END_OF_FUNCTION:04X}":
+            return f"Returns to {address}"
+        return f"Ends the function: its return address is {address}" if self.text == "RTN" else \
+            f"Ends the function, whose return address is {address},"
 
     def part_return(self) -> str:
         """Returns the newest return address."""

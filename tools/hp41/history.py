@@ -58,6 +58,8 @@ class Place(NamedTuple):
     made: int = 0
     shift: bool = False
     program: bool = False
+    # Whether a key had just turned the display on.
+    is_on: bool = False
 
 
 class History:
@@ -69,6 +71,8 @@ class History:
         self.base: Optional[State] = None
         self.last: Optional[State] = None
         self.changes: list[State] = []
+        # What was amended of the last state: the next change names it.
+        self.amended: set[str] = set()
         self.places = [array("I") for _ in Place._fields]
 
     @property
@@ -78,8 +82,8 @@ class History:
 
     def place(self, number: int) -> Place:
         """Returns the place of a state."""
-        entries, steps, made, shift, program = (column[number] for column in self.places)
-        return Place(entries, steps, made, bool(shift), bool(program))
+        entries, steps, made, shift, program, is_on = (column[number] for column in self.places)
+        return Place(entries, steps, made, bool(shift), bool(program), bool(is_on))
 
     def is_read(self) -> bool:
         """Returns whether the last state is kept."""
@@ -93,7 +97,8 @@ class History:
                 return
             self.skip(place)
             self.last = state
-            self.changes.append(change)
+            self.changes.append({**change, **{name: state[name] for name in self.amended}})
+            self.amended = set()
             if len(self.changes) >= MOST_STATES:
                 self.base = applied(self.base, self.changes.pop(0))
                 self.first += 1
@@ -101,7 +106,7 @@ class History:
         if self.end < 0 or self.place(self.end)[:2] != place[:2]:
             self.skip(place)
         # Those that are kept have no gaps.
-        self.first, self.base, self.last, self.changes = self.end, state, state, []
+        self.first, self.base, self.last, self.changes, self.amended = self.end, state, state, [], set()
 
     def skip(self, place: Place) -> None:
         """Adds the place of a state that is not read."""
@@ -114,6 +119,30 @@ class History:
             if self.places[0][at] != entries:
                 break
             self.places[0][at] -= 1
+
+    def state(self, number: int) -> Optional[State]:
+        """Returns the state with a number; None if it is not kept."""
+        at = number - self.first
+        if self.base is None or not 0 <= at <= len(self.changes):
+            return None
+        state = self.base
+        for change in self.changes[:at]:
+            state = applied(state, change)
+        return state
+
+    def amend(self, number: int, known: State) -> None:
+        """Adds values to a state that is kept, which were not known when it was read. The states after it stay as they are."""
+        state, at = self.state(number), number - self.first
+        if state is None or self.base is None:
+            return
+        if at == 0:
+            self.base = {**self.base, **known}
+        else:
+            self.changes[at - 1] = {**self.changes[at - 1], **known}
+        if at == len(self.changes):
+            self.amended |= set(known)
+        else:
+            self.changes[at] = {**{name: state[name] for name in known}, **self.changes[at]}
 
     def told(self, known: Optional[int]) -> Told:
         """Returns the states after the one with the number `known`, or all that are kept if that one is not kept or there is none: the

@@ -8,6 +8,7 @@ from typing import Optional, Sequence
 
 from .comments import BESIDE
 from .containers import FREE42, LIF, Member
+from .counts import counted
 from .decks import MARK_OF_UTF8, MARKS_OF_UTF16, block, hexadecimal, lines_of, refused, shown, text_of, words_of
 from .dialects import Dialect
 from .doubts import PRIVATE, PRIVATE_BIT, PRIVATE_ROWS, Doubt, at_places, of_bytes, of_line
@@ -17,7 +18,7 @@ from .listings import Listing
 from .misplaced import CASES, PROJECT, TABLE, what_is
 from .mods import Image
 from .modules import lines_of_texts
-from .placing import Group, Place, counted, out_of_order
+from .placing import Group, Place, out_of_order
 from .programs import Line, listed, numbered
 from .programs import Place as Position
 from .records import END, ends_of, last_end

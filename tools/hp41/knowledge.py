@@ -383,19 +383,26 @@ class Knowledge:
         yield from self.bit_facts(value, key, [("or_at_least_c", {c: 1}, {key: 1}), ("or_at_least_a", {a: 1}, {key: 1}),
                                                ("or_at_most", {key: 1}, {c: 1, a: 1})])
 
-    def reach(self, keys: Iterable[Key], passed: list[Fact], is_needed: bool = True) -> list[Fact]:
+    def reach(self, keys: Iterable[Key], passed: list[Fact], is_needed: bool = True, is_wide: bool = False) -> list[Fact]:
         """Returns the facts that may decide a claim about some numbers: those that define the numbers, tests and requirements that share
-        a number with them, and so on. Also notes that they are needed."""
-        wanted, seen = list(keys), set()
+        a number with them, and so on. Also notes that they are needed. With `is_wide`, tests of numbers that are defined by the same ones
+        are added, for example of the carry of a sum of two registers to a claim about these."""
+        wanted: list[Key] = list(keys)
+        seen: set[Key] = set()
         facts: dict[str, Fact] = {}
         while wanted:
             key = wanted.pop()
-            if key in seen:
-                continue
-            seen.add(key)
-            for one in [*self.defining(key), *(fact for fact in passed if key in fact.keys)]:
-                if one.name not in facts:
-                    facts[one.name] = one
-                    one.is_needed |= is_needed
-                    wanted += [other for other in one.keys if other not in seen]
+            if key not in seen:
+                seen.add(key)
+                for one in [*self.defining(key), *(fact for fact in passed if key in fact.keys)]:
+                    if one.name not in facts:
+                        facts[one.name] = one
+                        one.is_needed |= is_needed
+                        wanted += [other for other in one.keys if other not in seen]
+            if not wanted and is_wide:
+                wanted = [other for fact in passed if fact.name not in facts for other in fact.keys if self.depends(other, seen)]
         return list(facts.values())
+
+    def depends(self, key: Key, others: set[Key]) -> bool:
+        """Returns whether a number is defined by one of some others, or by a number that these define too."""
+        return any(one in others for fact in self.reach([key], [], False) for one in fact.keys)

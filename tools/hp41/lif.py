@@ -1,6 +1,7 @@
 """LIF disk images, and the files that begin with an entry of a LIF directory, such as .p41. docs/OLD-PROGRAMS.md has their layouts."""
 from typing import List, NamedTuple, Optional, Tuple
 
+from .counts import counted
 from .records import DATA, END, LETTERS, LISTING, OTHER, PROGRAM, Damaged, Part, ends_of, is_end, names_for, number, number_in, sum_of
 
 RECORD, ENTRY, HEAD = 256, 32, 512
@@ -106,10 +107,11 @@ def part_of(entry: Entry, data: bytes, begin: int) -> Part:
     if entry.kind == PROGRAM_TYPE:
         return Part(entry.name, PROGRAM, program_of(entry, data, begin))
     if entry.kind == DATA_TYPE:
+        registers = counted(entry.length, "{} register", "{} registers")
         if entry.length * REGISTER > len(data):
-            raise Damaged(entry.at + LENGTH, f"{entry.length} registers in {entry.name}", f"at most {len(data) // REGISTER}, which fit "
+            raise Damaged(entry.at + LENGTH, f"{registers} in {entry.name}", f"at most {len(data) // REGISTER}, which fit "
                           f"into its {entry.records} records")
-        return Part(entry.name, DATA, data[:entry.length * REGISTER], [f"{entry.length} registers of data, no program"])
+        return Part(entry.name, DATA, data[:entry.length * REGISTER], [f"{registers} of data, no program"])
     if entry.kind == TEXT_TYPE:
         return Part(entry.name, LISTING, "".join(f"{line}\n" for line in texts_of(data, begin)).encode())
     return Part(entry.name, OTHER, data, [f"type {entry.kind:04X}{', ' + TYPES[entry.kind] if entry.kind in TYPES else ''}: no program"])
@@ -119,7 +121,7 @@ def program_of(entry: Entry, data: bytes, begin: int) -> bytes:
     """Returns the bytes of a program, without the checksum after them, which must be right."""
     length = entry.length
     if not 0 < length < len(data):
-        raise Damaged(entry.at + LENGTH, f"{length} bytes in the program {entry.name}",
+        raise Damaged(entry.at + LENGTH, f"{counted(length, '{} byte', '{} bytes')} in the program {entry.name}",
                       f"1 to {max(len(data) - 1, 1)}, which fit with a checksum into {len(data)} bytes")
     if data[length] != sum_of(data[:length]):
         raise Damaged(begin + length, f"{data[length]:02X} as the checksum of {entry.name}",

@@ -1,4 +1,5 @@
-"""SHIFT and program mode, which no view of the bench prints. They are read from what the bench replies to each key.
+"""SHIFT and program mode, which no view of the bench prints. They are read from what the bench replies to each key. In the same way it is
+read from a key that an empty display is on; otherwise tools/hp41/displays.py finds whether it is.
 
 Each key is sent with the views of the display and of the position before and after it. The display decides: in program mode it is the
 program line at the position, and a prompt shows IND if SHIFT was pressed in it."""
@@ -41,8 +42,12 @@ class Lights:
     """SHIFT and program mode, as they are after the last key."""
 
     def __init__(self) -> None:
-        """Begins with both off."""
+        """Begins with both off, and the display on."""
         self.shift = self.program = False
+        # Whether the last key has turned the display on, and nothing was executed afterwards, which may have turned it off.
+        self.is_on = True
+        # What was on the display after the last key: a prompt that is open there stays open under a message.
+        self.prompt = ""
 
     def keys_if(self, display: str, flags: str, is_name: bool) -> str:
         """Returns in which state the keys of program lines type them, if this is not so now. `is_name` is whether a name is being typed."""
@@ -51,9 +56,13 @@ class Lights:
         return " and ".join(text for text, is_needed in needs.items() if is_needed)
 
     def press(self, name: str, before: Seen, after: Seen) -> None:
-        """Reads the state after an accepted key. While something runs, keys have no effect on it."""
+        """Reads the state after an accepted key. While something runs, keys have no effect on it, but turn the display on."""
+        # SST executes a line, and so does the key that ends the prompt of XEQ: this line may be OFF.
+        is_line = before.is_idle and (name == "SST" or any(one.startswith("XEQ ") for one in (self.prompt, before.display)))
+        self.is_on = not is_line
         if not before.is_idle:
             return
+        self.prompt = after.display
         if name == "SHIFT":
             is_prompt = PROMPT.fullmatch(after.display) and before.display != after.display
             self.shift = not (self.shift or is_prompt)

@@ -42,25 +42,67 @@ def is_false(one: Row) -> bool:
     return not one.factors and (one.constant != 0 if one.is_equal else one.constant < 0)
 
 
+# For each relation those of which one is true if it is false.
+OPPOSITES = {"=": ("<", ">"), "<>": ("=",), "<": (">=",), "<=": (">",), ">": ("<=",), ">=": ("<",)}
+
+
+def follows(rows: Iterable[Row], left: Mapping[Any, int], relation: str, right: Mapping[Any, int]) -> bool:
+    """Returns whether a comparison of two sums follows from rows. The answer no can be wrong, the answer yes cannot."""
+    known = list(rows)
+    return all(contradicts([*known, *row(left, opposite, right)]) for opposite in OPPOSITES[relation])
+
+
+def with_signs(rows: Iterable[Row]) -> list[Row]:
+    """Returns rows, and that none of their numbers is negative."""
+    found = list(rows)
+    return found + [Row({key: Fraction(1)}, Fraction(0), False) for key in {key for one in found for key in one.factors}]
+
+
+def without_one(rows: list[Row], keys: set[Hashable]) -> list[Row]:
+    """Returns what follows from rows for numbers without one of these."""
+    equal = next((one for one in rows if one.is_equal and not keys.isdisjoint(one.factors)), None)
+    if equal:
+        key = next(key for key in equal.factors if key in keys)
+        return [one if key not in one.factors else added(one, Fraction(1), equal, -one.factors[key] / equal.factors[key], one.is_equal)
+                for one in rows if one is not equal]
+    key = min(sorted(keys, key=str), key=lambda key: sum(1 for one in rows if one.factors.get(key, 0) > 0) * sum(
+        1 for one in rows if one.factors.get(key, 0) < 0))
+    more = [one for one in rows if one.factors.get(key, 0) > 0]
+    less = [one for one in rows if one.factors.get(key, 0) < 0]
+    return [*(one for one in rows if key not in one.factors),
+            *(added(one, -other.factors[key], other, one.factors[key], False) for one in more for other in less)]
+
+
 def contradicts(rows: Iterable[Row]) -> bool:
     """Returns whether no numbers that are not negative meet all rows."""
-    left = list(rows)
-    left += [Row({key: Fraction(1)}, Fraction(0), False) for key in {key for one in left for key in one.factors}]
+    left = with_signs(rows)
     while True:
         if any(map(is_false, left)):
             return True
-        equal = next((one for one in left if one.is_equal and one.factors), None)
         keys = {key for one in left for key in one.factors}
         if not keys or len(left) > MOST_ROWS:
             return False
-        if equal:
-            key = next(iter(equal.factors))
-            left = [one if key not in one.factors else added(one, Fraction(1), equal, -one.factors[key] / equal.factors[key], one.is_equal)
-                    for one in left if one is not equal]
-            continue
-        key = min(keys, key=lambda key: sum(1 for one in left if one.factors.get(key, 0) > 0) * sum(
-            1 for one in left if one.factors.get(key, 0) < 0))
-        more = [one for one in left if one.factors.get(key, 0) > 0]
-        less = [one for one in left if one.factors.get(key, 0) < 0]
-        left = [one for one in left if key not in one.factors]
-        left += [added(one, -other.factors[key], other, one.factors[key], False) for one in more for other in less]
+        left = without_one(left, keys)
+
+
+def about(rows: Iterable[Row], kept: set[Hashable]) -> list[Row]:
+    """Returns what follows from rows for some of the numbers alone. If there are too many rows, not all of it is found."""
+    left = with_signs(rows)
+    while True:
+        keys = {key for one in left for key in one.factors} - kept
+        if not keys or len(left) > MOST_ROWS:
+            return [one for one in left if not keys.intersection(one.factors)]
+        left = distinct(without_one(left, keys))
+
+
+def distinct(rows: list[Row]) -> list[Row]:
+    """Returns rows without repetitions and without those that are always true."""
+    found: dict[Hashable, Row] = {}
+    for one in rows:
+        size = max((abs(many) for many in one.factors.values()), default=Fraction(0))
+        if size:
+            scaled = Row({key: many / size for key, many in one.factors.items()}, one.constant / size, one.is_equal)
+            found[(frozenset(scaled.factors.items()), scaled.constant, scaled.is_equal)] = scaled
+        elif is_false(one):
+            found[(frozenset(), one.constant, one.is_equal)] = one
+    return list(found.values())

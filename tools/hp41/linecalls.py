@@ -6,7 +6,9 @@ from typing import TYPE_CHECKING
 
 from .lineclaims import Term
 from .linelemmas import LAW_NAMES
-from .linesteps import PLACES, Point, into, stack_part
+from .linecounts import Count
+from .linepoints import PLACES, Point
+from .linesteps import into, stack_part
 from .lineterms import CALL_NAMED
 
 if TYPE_CHECKING:
@@ -39,7 +41,7 @@ class CallProof:
         """Returns the values of the variables of the subroutine's theorem."""
         program, callee = self.proof.program, self.callee
         return [*(program.amount(self.point.state.register(name)) for name in callee.contract.numbers),
-                *map(program.number, callee.numbers),
+                *map(self.whole, callee.contract.wholes), *map(program.number, callee.numbers),
                 *(program.result(into(term, self.point.state)) for term in callee.walk.required)]
 
     def there(self, name: str) -> str:
@@ -55,6 +57,18 @@ class CallProof:
             return f"(ap (λ (st : Stack). holding_of st.{PLACES[name]}) has.stack_is ∙ {known})"
         return f"(ap holding_of ({self.there(name)}) ∙ {known})"
 
+    def whole(self, name: str) -> str:
+        """Returns the whole number in a register before the subroutine."""
+        found = self.proof.program.walk.nat(self.point.state.register(name))
+        assert found is not None
+        return found
+
+    def whole_there(self, name: str) -> list[str]:
+        """Returns the proofs that a register contains the whole number that the subroutine requires, as arguments."""
+        term, part = self.point.state.register(name), self.proof.whole_part
+        own = f"IsRegisterOf (pos ({self.whole(name)} * one)) register"
+        return [part.small(term), f"(subst (λ (register : List ℕ). {own}) (sym ({self.there(name)})) {part.is_whole(term)})"]
+
     def requirements(self) -> list[str]:
         """Returns the proofs of the subroutine's requirements, as arguments."""
         callee, program = self.callee, self.proof.program
@@ -63,8 +77,10 @@ class CallProof:
         if callee.used:
             found.append(f"(size_there {self.base} {max(callee.used)} (omega (arith, inside)))")
         found += [self.number_there(name) for name in callee.contract.numbers]
+        found += [one for name in callee.contract.wholes for one in self.whole_there(name)]
         found += [f"is_{program.number(text)}" for text in callee.numbers]
         found += [f"is_{program.result(into(term, self.point.state))}" for term in callee.walk.required]
+        found += [f"(omega {self.proof.whole_part.known(self.point.facts)})"] * len(callee.contract.relations)
         if callee.walk.calls:
             most = 6 - program.depth
             more = f"one_return_more returns (Memory l{self.point.at}.next) {most} few (omega arith)"
@@ -136,10 +152,16 @@ class CallProof:
             if fact.left:
                 register = self.register_of(fact.left)
                 at = self.claim_of(register)
-                found += [self.content(register), *([f"got.claim_{at}"] if fact.left.args else [])]
+                found += [self.content(register), *([f"got.claim_{at}"] if fact.left.args else []), *self.small(fact.left, at)]
             else:
                 found.append("on")
         return " ".join(found)
+
+    def small(self, left: Term, at: int | None) -> list[str]:
+        """Returns the proof that a whole number that the subroutine leaves has at most ten digits, as an argument."""
+        if not left.args or not at or self.proof.program.walk.nat(left.args[0]) is None:
+            return []
+        return [f"got.small_{at}" if self.callee.is_sum(at - 1) else "(omega arith)"]
 
     def register_of(self, left: Term) -> str:
         """Returns the register in which the subroutine has left a value."""
@@ -167,6 +189,35 @@ class CallProof:
         numbers, truths = callee.parts()
         theorem = " ".join([f"of_{callee.name.lower()}.proved {LAW_NAMES} pages {called} count {self.target()}",
                             *(given[name] for name in [*numbers, *truths]), values, *self.requirements()])
-        return (f"call_then {self.base} {self.place} {callee.most} {after.most} {self.target()}\n    ({callee.name}_After {called} "
+        text = (f"call_then {self.base} {self.place} {self.most()} {after.most} {self.target()}\n    ({callee.name}_After {called} "
                 f"{values}) After\n    ({self.step()}) (omega (arith, few)) (λ left is. is.returned)\n    ({theorem})\n    "
                 f"(λ after on got. {goes_on})")
+        return self.widened(text)
+
+    def most(self) -> Count:
+        """Returns the greatest number of lines of the subroutine, in terms of the registers before it."""
+        return Count(self.callee.most.constant, tuple((many, " * ".join(self.factors(one))) for many, one in self.callee.most.parts))
+
+    def factors(self, part: str) -> list[str]:
+        """Returns the whole numbers in a part of the subroutine's number of lines, as they are before it."""
+        return [self.whole(name.removeprefix("whole_").upper()) for name in part.split(" * ")]
+
+    def widened(self, text: str) -> str:
+        """Returns the proof for the number of lines that is claimed here, from one for the number that the subroutine's theorem has."""
+        most, after, point = self.most(), self.after.most, self.point
+        if str(most.more(1).joined(after)) == str(point.most) and not most.parts and not after.parts:
+            return text
+        known = self.proof.whole_part.known(point.facts)
+        walk = self.proof.whole_part.whole_walk()
+        factors = list(dict.fromkeys(name for _, one in self.callee.most.parts for name in self.factors(one)))
+        bounds = "".join(f"let bounded_{at} : {name} ≤ {walk.bound(name, point.facts)} = omega {known} in\n    "
+                         for at, name in enumerate(factors))
+        facts = ["arith"]
+        for _, one in self.callee.most.parts:
+            own = [f"bounded_{factors.index(name)}" for name in self.factors(one)]
+            found = own[0]
+            for more in own[1:]:
+                found = f"(mul-le-mul {found} {more})"
+            facts.append(found)
+        shown = f"({', '.join(facts)})" if len(facts) > 1 else "arith"
+        return (f"{bounds}more_lines_suffice pages (1 + {most} + {after}) {point.most} _ After (omega {shown})\n    ({text})")

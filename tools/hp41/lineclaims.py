@@ -10,26 +10,26 @@ from .claims import CONDITIONS, END, Token, WordReader, check_spelling
 # The registers of the stack, and data registers such as R05.
 STACK = ("X", "Y", "Z", "T", "L")
 DATA = re.compile("R([0-9]{2})")
-LAST_DATA = 15
 
 NUMBER = re.compile(r"(?:[0-9]+\.?[0-9]*|\.[0-9]+)(?:E-?[0-9]{1,2})?")
-TOKEN = re.compile(rf"{NUMBER.pattern}|X\^2|[A-Za-z]+[0-9]*|<=|>=|<>|[-+*/=<>(),]|\S")
+TOKEN = re.compile(rf"1/X(?= ?\()|{NUMBER.pattern}|X\^2|[A-Za-z]+[0-9]*|<=|>=|<>|[-+*/=<>(),]|\S")
 LISTED = re.compile(r"[ \t]*(?:[0-9]{1,4}[.:)]?[ \t]+)?(?:#|;|//)[ \t]*")
 WORD = re.compile("[A-Za-z]+")
 
 # Functions of one number, in the form NAME(NUMBER).
-FUNCTIONS = {"ABS": "ABS", "CHS": "CHS", "X^2": "X^2"}
+FUNCTIONS = ("ABS", "CHS", "SIGN", "X^2", "SQRT", "1/X", "INT", "COUNT", "FINAL")
 ERRORS = ("OUT OF RANGE", "DATA ERROR")
 RELATIONS = ("<=", ">=", "<>", "=", "<", ">")
 OPPOSITE = {"<": ">=", ">=": "<", "<=": ">", ">": "<=", "=": "<>", "<>": "="}
-REGISTER = "a register (X Y Z T L, or R00 to R15)"
+REGISTER = "a register (X Y Z T L, or R00 to R99)"
 LOOP = ("invariant", "decreases")
 
 
 @dataclass(frozen=True)
 class Term:
     """A value: `old` and the name of a register before the program; `now` and that of a register at the place of the claim; `number` and
-    the text of a number; `zero`; an operation with its terms, named as the calculator's function; `left`, the content of a register that a
+    the text of a number; `zero`; `pi`; an operation with its terms, named as the calculator's function; `counter` with its count and its final
+    count, which are unknown if its name says so; `left`, the content of a register that a
     subroutine or an earlier round has left, with the name of a variable, and its value if that is known; or `whole`, a whole number with
     the name of a variable. `origin` says in words what an unknown content is."""
     op: str
@@ -53,10 +53,12 @@ class Term:
             return self.name
         if self.op == "old":
             return f"old {self.name}"
-        if self.op in ("number", "zero"):
+        if self.op in ("number", "zero", "pi"):
             return self.name or "0"
+        if self.op == "counter":
+            return f"a counter with the count {plain(self.args[0].text())} and the final count {plain(self.args[1].text())}"
         if len(self.args) == 1:
-            return f"{self.op}({self.args[0].text()})"
+            return f"{self.op}({plain(self.args[0].text())})"
         return f"({self.args[0].text()} {self.op} {self.args[1].text()})"
 
     def parts(self) -> list[Term]:
@@ -72,7 +74,7 @@ def old(name: str) -> Term:
     return Term("old", (), name)
 
 
-ZERO = Term("zero")
+ZERO, PI = Term("zero"), Term("pi", (), "PI")
 
 
 def plain(text: str) -> str:
@@ -127,6 +129,7 @@ class LoopContract:
     numbers at the label, and what each round makes smaller."""
     line: int
     wholes: dict[str, int] = field(default_factory=dict)
+    counters: dict[str, int] = field(default_factory=dict)
     kept: dict[str, tuple[Term, str, int]] = field(default_factory=dict)
     relations: list[Relation] = field(default_factory=list)
     decreases: Term | None = None
@@ -140,6 +143,7 @@ class LineContract:
     line: int
     loop: LoopContract
     wholes: dict[str, int] = field(default_factory=dict)
+    counters: dict[str, int] = field(default_factory=dict)
     relations: list[Relation] = field(default_factory=list)
     has_own: bool = False
     numbers: dict[str, int] = field(default_factory=dict)
@@ -161,11 +165,8 @@ class LineReader(WordReader):
     def register(self) -> str:
         """Returns the register that is next."""
         word = self.now()
-        data = DATA.fullmatch(word.text)
-        if word.text not in STACK and not data:
+        if word.text not in STACK and not DATA.fullmatch(word.text):
             self.fail(REGISTER)
-        if data and int(data[1]) > LAST_DATA:
-            self.fail("R00 to R15, because claims about other data registers are not supported")
         self.at += 1
         return word.text
 
@@ -184,23 +185,25 @@ class LineReader(WordReader):
             found = self.sum()
             self.want(")")
             return found
+        if self.take("PI"):
+            return PI
         if word.text in FUNCTIONS and self.take(word.text):
             self.want("(")
             found = self.sum()
             self.want(")")
-            return Term(FUNCTIONS[word.text], (found,))
+            return Term(word.text, (found,))
         if self.keyword == "requires" and word.text == "old":
             self.fail("no `old`, because `requires` is about the state before the program", word)
         is_old = bool(self.take("old"))
         if self.keyword == "ensures" and not is_old:
-            self.fail("`old` and a register, for example `old X`, or a number, ABS(..), CHS(..) or X^2(..)")
+            self.fail("`old` and a register, for example `old X`, a number, or a function, for example ABS(..)")
         return old(self.register()) if is_old or self.keyword == "requires" else Term("now", (), self.register())
 
     def product(self) -> Term:
         """Returns products and quotients."""
         found = self.factor()
         while True:
-            sign = self.take("*", "/")
+            sign = self.take("*", "/", "MOD")
             if not sign:
                 return found
             found = Term(sign, (found, self.factor()))
@@ -243,22 +246,25 @@ def read_requires(reader: LineReader, contract: LineContract) -> None:
             reader.fail("one operation before `is in range`, for example `Y + X is in range`", reader.tokens[first])
         contract.in_range.append((values[0], line))
         return
-    is_whole = read_kind(reader, verb)
+    kind = read_kind(reader, verb)
     for value in values:
         if value.op != "old":
             reader.fail(f"{REGISTER} before `is a number`", reader.tokens[first])
-        (contract.wholes if is_whole else contract.numbers)[value.name] = line
+        {"whole": contract.wholes, "counter": contract.counters, "": contract.numbers}[kind][value.name] = line
 
 
-def read_kind(reader: LineReader, verb: str) -> bool:
-    """Reads `a number`, `a whole number`, `numbers` or `whole numbers` after `is` or `are`. Returns whether the numbers are whole."""
+def read_kind(reader: LineReader, verb: str) -> str:
+    """Reads `a number`, `a whole number` or `a counter` after `is`, or the plural after `are`. Returns `whole`, `counter`, or an empty
+    text for other numbers."""
     article = verb == "is" and bool(reader.take("a"))
+    if reader.take("counter" if article else "counters" if verb == "are" else ""):
+        return "counter"
     is_whole = bool(reader.take("whole"))
     if verb == "is" and not (article and reader.take("number")):
         reader.fail("`a number` or `in range`")
     if verb == "are":
         reader.want("numbers")
-    return is_whole
+    return "whole" if is_whole else ""
 
 
 def read_invariant(reader: LineReader, contract: LineContract) -> None:
@@ -274,10 +280,11 @@ def read_invariant(reader: LineReader, contract: LineContract) -> None:
         unchanged(reader)
         loop.kept |= {name: (old(name), reader.text_from(first), line) for name in names}
     elif names and reader.now().text in ("is", "are"):
-        if not read_kind(reader, reader.want("is", "are")):
+        kind = read_kind(reader, reader.want("is", "are"))
+        if not kind:
             reader.fail("`a whole number`, `as before` or a comparison, because other numbers are not supported in `invariant`",
                         reader.tokens[first])
-        loop.wholes |= {name: line for name in names}
+        (loop.wholes if kind == "whole" else loop.counters).update({name: line for name in names})
     else:
         reader.at = first
         left = reader.sum()

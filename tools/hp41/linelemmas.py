@@ -9,8 +9,10 @@ LAW_TYPES = ("DecimalIsItsNearest → DecimalHasOneRegister → RegisterHoldsDec
              "QuotientHasOneNearest → ReadIsDetermined → RegisterIsDetermined")
 
 # For each function its row, the lemma of its result, and the lemma of a result that is out of range.
-TWO = {"+": ("values.Sum Y X", "added", "sum_is_out"), "-": ("values.Difference Y X", "subtracted", "difference_is_out"),
-       "*": ("values.Product Y X", "multiplied", "product_is_out"), "/": ("values.Quotient Y X", "divided", "quotient_is_out")}
+TWO = {"+": ("OfTwo twos.Sum Y X", "added", "sum_is_out"), "-": ("OfTwo twos.Difference Y X", "subtracted", "difference_is_out"),
+       "*": ("OfTwo twos.Product Y X", "multiplied", "product_is_out"), "/": ("OfTwo twos.Quotient Y X", "divided", "quotient_is_out")}
+ONE = {"X^2": ("OfTwo twos.Product X X", "squared", "square_is_out"), "SQRT": ("OfOne ones.Root X", "rooted", ""),
+       "1/X": ("OfOne ones.Inverse X", "inverted", "inverse_is_out")}
 SIMPLE = {"ENTER^": "enters", "X<>Y": "exchanges", "RDN": "rolls_down", "R^": "rolls_up"}
 
 # For each test its condition, and the lemmas that its registers contain numbers and what it compares.
@@ -25,6 +27,7 @@ TESTS = {"X<Y?": ("rows.Below (rows.In X) (rows.In Y)", "comparable", "tells_bel
 
 PROOF_USED = """use Rattle.std.proofs.Common.{refl, sym, ap, ◌∙◌, ◌+◌, ◌++◌, None, Some, subst, arith, inl, inr, Err, Result, zero, suc}
 use Rattle.std.specs.Prelude.{not}
+use Rattle.std.proofs.Math.Nat.{mul-le-mul, mul-le-mul_left}
 use Rattle.h41_decimal.specs.Laws.{DecimalIsItsNearest, RegisterIsDetermined}
 use Rattle.h41_decimal.specs.declared.fault.DecimalFault.{DecimalFault}
 use Rattle.h41_decimal.specs.declared.fault.DecimalFault.TheVariants.{Data, Range}
@@ -40,34 +43,43 @@ use Rattle.h41_program.specs.ProgramLines.{Reads}
 use Rattle.h41_program.specs.Searches.{AnswersLocal, start_in}
 use Rattle.h41_program.specs.declared.listed_line.ListedLine.{ListedLine}
 use Rattle.h41_ram.specs.RegisterMap.{RegisterMap}
+use Rattle.h41_rows.specs.Counters.{Down, Up}
 use Rattle.h41_rows.specs.Places.{X, Y}
 use Rattle.h41_rows.specs.Rows as rows
-use Rattle.h41_rows.specs.Values as values
+use Rattle.h41_rows.specs.Values.{IsRegisterOf, OfOne, OfTwo}
+use Rattle.h41_rows.specs.declared.values.ValueOfOne.TheVariants as ones
+use Rattle.h41_rows.specs.declared.values.ValueOfTwo.TheVariants as twos
 use Rattle.h41_reasoning_lines.specs.ProgramStates.{with_content}
 use Rattle.h41_reasoning_lines.proofs.Calls.{becomes, call_then, calls_local, calls_named, content_there, kept_but, lines_there}
 use Rattle.h41_reasoning_lines.proofs.Calls.{memory_there}
 use Rattle.h41_reasoning_lines.proofs.Calls.{name_there, one_return_more, part_of, program_there, rest_lines, same_stack, size_there}
 use Rattle.h41_reasoning_lines.proofs.Calls.{recontented, sound_there}
-use Rattle.h41_reasoning_lines.proofs.Computing.{added, comparable, comparable_turned, comparable_x, divided, made_absolute, made_negative}
-use Rattle.h41_reasoning_lines.proofs.Computing.{multiplied, number_there, squared, subtracted, tells_above, tells_at_most, tells_below}
-use Rattle.h41_reasoning_lines.proofs.Computing.{tells_negative, tells_not_positive, tells_positive}
+use Rattle.h41_reasoning_lines.proofs.Computing.{added, comparable, comparable_turned, comparable_x, divided, inverted, made_absolute}
+use Rattle.h41_reasoning_lines.proofs.Computing.{made_negative, made_unit, made_whole, multiplied, number_there, reduced, rooted, squared}
+use Rattle.h41_reasoning_lines.proofs.Computing.{subtracted, tells_above, tells_at_most, tells_below, tells_negative}
+use Rattle.h41_reasoning_lines.proofs.Computing.{tells_not_positive, tells_positive}
+use Rattle.h41_reasoning_lines.proofs.Counters.{continues, continues_down, count_is, counter_ten, down_is, number_is, passes}
+use Rattle.h41_reasoning_lines.proofs.Counters.{number_up_whole, passes_down, passes_whole}
 use Rattle.h41_reasoning_lines.proofs.Counting.{counts_down, counts_to_zero}
-use Rattle.h41_reasoning_lines.proofs.Errors.{difference_is_out, never_data, no_quotient, product_is_out, quotient_is_out}
-use Rattle.h41_reasoning_lines.proofs.Errors.{square_is_out, sum_is_out}
+use Rattle.h41_reasoning_lines.proofs.Errors.{difference_is_out, inverse_is_out, never_data, no_inverse, no_quotient, product_is_out}
+use Rattle.h41_reasoning_lines.proofs.Errors.{quotient_is_out, square_is_out, sum_is_out}
 use Rattle.h41_reasoning_lines.proofs.Labels.{found_back, found_onward, label_after, label_at_end, label_here, no_end, none_late}
 use Rattle.h41_reasoning_lines.proofs.Labels.{position_next}
 use Rattle.h41_reasoning_lines.proofs.Listed.{IsListed, in_turn_to_end}
+use Rattle.h41_reasoning_lines.proofs.Loops.{goes_past, goes_round}
 use Rattle.h41_reasoning_lines.proofs.ProgramStates.{begins, other_content}
-use Rattle.h41_reasoning_lines.proofs.ProgramSteps.{changes_sign, clear_there, clears_x, ends_back, enters, enters_number, exchanges, fails}
-use Rattle.h41_reasoning_lines.proofs.ProgramSteps.{own_lifted}
+use Rattle.h41_reasoning_lines.proofs.ProgramSteps.{changes_sign, clear_there, clears_stack, clears_x, ends_back, enters}
+use Rattle.h41_reasoning_lines.proofs.ProgramSteps.{enters_number, exchanges, fails, own_lifted, pi_ten, recalls_pi}
 use Rattle.h41_reasoning_lines.proofs.ProgramSteps.{passes_global, passes_label, recalls, recalls_last, returns_back, rolls_down, rolls_up}
 use Rattle.h41_reasoning_lines.proofs.ProgramSteps.{goes_to, stores, tests_false, tests_true, works_on_one, works_on_two}
+use Rattle.h41_reasoning_lines.proofs.RegisterSteps.{computes_by, data_error_by, direct_there, exchanges_by, index_counter}
+use Rattle.h41_reasoning_lines.proofs.RegisterSteps.{index_whole, indirect_there, out_of_range_by, recalls_by, stores_by}
 use Rattle.h41_reasoning_lines.proofs.Rounds.{by_last, line_then, more_lines_suffice}
-use Rattle.h41_reasoning_lines.proofs.SignedDecimals.{absolute, negative}
+use Rattle.h41_reasoning_lines.proofs.SignedDecimals.{absolute, negative, unit}
 use Rattle.h41_reasoning_lines.proofs.Stepping.{after_line, before_line, own_place}
-use Rattle.h41_reasoning_lines.proofs.Wholes.{whole_ten}
+use Rattle.h41_reasoning_lines.proofs.Wholes.{modulo_some, whole_ten}
 use Rattle.h41_reasoning_lines.proofs.WholeSteps.{difference_whole, is_some, is_zero, le_false, le_true, lt_false, lt_true, sum_whole}
-use Rattle.h41_reasoning_lines.proofs.WholeSteps.{typed_whole}
+use Rattle.h41_reasoning_lines.proofs.WholeSteps.{typed_decimals, typed_whole, typed_zero, whole_part, whole_remainder}
 use Rattle.std.proofs.lemmas.Bool.{cases_lt}
 """
 
@@ -96,6 +108,26 @@ whole_in registers n small =
       is = subst (λ (z : ℤ). IsRegisterOf z found.0) ten.1 found.1;
     }
 
+-- The counter of a loop, as the calculator writes it.
+record CounterIn (i f : ℕ) : Type 0 where
+  ten : Ten
+  units_is : units ten ≡ pos (i * one + f * 10 ^ 105)
+  register : List ℕ
+  of_ten : IsRegisterOf (units ten) register
+  is : IsRegisterOf (pos (i * one + f * 10 ^ 105)) register
+
+counter_in : DecimalHasOneRegister → (i f : ℕ) → i < 10 ^ 7 → f < 1000 → CounterIn i f
+counter_in registers i f small few =
+    let ten = counter_ten i f small few in
+    let found = register_of registers ten.0 in
+    record {
+      ten = ten.0;
+      units_is = ten.1;
+      register = found.0;
+      of_ten = found.1;
+      is = subst (λ (z : ℤ). IsRegisterOf z found.0) ten.1 found.1;
+    }
+
 -- The rounds of a loop end, because a number falls.
 by_rounds : (Round : ℕ → Type 0) → ((left : ℕ) → ((fewer : ℕ) → fewer < left → Round fewer) → Round left) → (left : ℕ) → Round left
 by_rounds Round round left = from (suc left) left (omega arith)
@@ -111,7 +143,7 @@ clash truth is_so is_not = let never : true ≡ false = sym is_so ∙ is_not in 
 turned : (truth on : Bool) → truth ≡ on → not truth ≡ not on
 turned truth on is = ap not is
 
--- The negative and the absolute value of the number in a register.
+-- The negative and the absolute value of the number in a register, and 1 with its sign.
 module _ (itself : DecimalIsItsNearest) (decimals : RegisterHoldsDecimal) (register : List ℕ) (n : ℤ)
     (holds : holding_of register ≡ Number n) where
   negative_of : (other : Ten) × (units other ≡ neg_ℤ n) × Nearest (neg_ℤ n) 1 (Ok other)
@@ -119,8 +151,21 @@ module _ (itself : DecimalIsItsNearest) (decimals : RegisterHoldsDecimal) (regis
       let found = decimals register n (number_there register n holds) in
       negative itself found.answer n found.right
 
+  unit_of_number : (other : Ten) × (units other ≡ with_sign (sign_of n) one) × Nearest (with_sign (sign_of n) one) 1 (Ok other)
+  unit_of_number = unit itself n
+
   absolute_of : (other : Ten) × (units other ≡ pos (unsigned_abs n)) × Nearest (pos (unsigned_abs n)) 1 (Ok other)
   absolute_of =
       let found = decimals register n (number_there register n holds) in
       absolute itself found.answer n found.right
 """
+
+
+def chosen(place: int, count: int) -> str:
+    """Returns the proof of one of several errors, which are the last parts of a disjunction of `count` + 1 parts."""
+    found = "refl"
+    if place < count - 1:
+        found = f"(inl {found})"
+    for _ in range(place + 1):
+        found = f"(inr {found})"
+    return found

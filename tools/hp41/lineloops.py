@@ -5,7 +5,9 @@ from __future__ import annotations
 from typing import TYPE_CHECKING
 
 from .lineclaims import Term
-from .linesteps import Count, Fact, Loop, Point, State
+from .linepoints import Fact, Loop, Point, State
+from .lineregisterproofs import RegisterProof
+from .lineregisters import is_count, register_line
 from .lineterms import NUMBER, PLAIN, characters_of
 from .linewholes import WholeWalk
 
@@ -45,17 +47,22 @@ class WholeProof:
         """Returns the proof that a whole number has at most ten digits."""
         return f"small_{term.name.lower()}"
 
-    def known(self, facts: tuple[Fact, ...]) -> str:
-        """Returns what is known of natural numbers, as arguments of `omega`."""
-        found = ["arith", *(f"small_{name.lower()}" for name in self.program.contract.wholes),
-                 *(f"given_{at}" for at in range(1, len(self.program.contract.relations) + 1))]
+    def known(self, facts: tuple[Fact, ...], *more: str) -> str:
+        """Returns what is known of natural numbers, with the names of more that is, as arguments of `omega`."""
+        contract = self.program.contract
+        found = ["arith", *(f"small_{name.lower()}" for name in (*contract.wholes, *contract.counters)),
+                 *(f"few_{name.lower()}" for name in contract.counters),
+                 *(f"given_{at}" for at in range(1, len(contract.relations) + 1))]
         for at, fact in enumerate(facts):
             if fact.left and fact.left.args and self.walk.nat(fact.left.args[0]) is not None:
                 found.append(f"small_{fact.left.name}")
+            elif fact.left and self.walk.parts_of(fact.left):
+                found += [f"small_{fact.left.name}", f"few_{fact.left.name}"]
             elif fact.relation:
                 found.append(f"t{at}")
             elif fact.loop:
                 found.append(f"counted_{fact.loop.number}")
+        found += more
         return f"({', '.join(found)})" if len(found) > 1 else "arith"
 
     # Lines.
@@ -69,7 +76,8 @@ class WholeProof:
         known = self.known(point.facts)
         rows = [f"{point.name} : {proof.given(point.facts)}{proof.leaves(point)}", f"{point.name} {names} memory has ="]
         if point.result and point.result.op == "-":
-            rows.append(f"    let order : {self.nat(point.state.x)} ≤ {self.nat(point.state.y)} = omega {known} in")
+            left, right = point.result.args
+            rows.append(f"    let order : {self.nat(right)} ≤ {self.nat(left)} = omega {known} in")
         rows += [f"    let small : {number} < 10 ^ 10 = omega {known} in", f"    let found = whole_in registers {number} small in",
                  f"    {proof.go_on(point, after, self.exact_step(point), f'{names} found.register found.is small')}"]
         proof.put(point, "\n".join(rows))
@@ -78,22 +86,59 @@ class WholeProof:
         """Returns the lemma of a line whose result is a whole number."""
         proof, text, state = self.proof, self.program.lines[point.at].text, point.state
         common, lift, stands = proof.common(point), proof.lift(state), f"l{point.at}.stands"
-        if text == "CLX":
-            return f"clears_x {common} {lift} found.register found.is {stands}"
+        if text in ("CLX", "CLST"):
+            return f"{'clears_x' if text == 'CLX' else 'clears_stack'} {common} {lift} found.register found.is {stands}"
+        if is_count(text):
+            return self.counted_past(point)
         if NUMBER.fullmatch(text):
             number = self.nat(Term("number", (), text))
-            nearest = "refl" if number == "0" else f"typed_whole itself {number} found.ten (omega arith) found.units_is"
+            more = "" if number == "0" else f"{number} "
+            nearest = f"typed_{'whole' if more else 'zero'} itself {more}found.ten {'(omega arith) ' if more else ''}found.units_is"
             typed = f"record {{ answer = Ok found.ten; nearest = {nearest}; value = refl; }}"
             is_number = f"(record {{ exponent = record {{ biased = 99; in_range = omega arith; }}; biased = refl; typed = {typed}; }})"
             return f"enters_number {common} {characters_of(text)} found.ten found.register {is_number} found.of_ten {stands} {lift}"
         assert point.result
-        value, lemma, exact, order = {"+": ("values.Sum Y X", "added", "sum_whole", ""),
-                                      "-": ("values.Difference Y X", "subtracted", "difference_whole", "order ")}[point.result.op]
-        left, right = state.y, state.x
+        if text in ("INT", "MOD"):
+            return self.part_of_whole(point)
+        value, lemma, exact, order = {"+": ("OfTwo twos.Sum Y X", "added", "sum_whole", ""),
+                                      "-": ("OfTwo twos.Difference Y X", "subtracted", "difference_whole", "order ")}[point.result.op]
+        left, right = point.result.args
+        nearest = f"{exact} itself {self.nat(left)} {self.nat(right)} found.ten {order}found.units_is"
+        if register_line(text):
+            return RegisterProof(proof, point).exact(nearest)
         return (f"works_on_two {common} {lift} functions.{PLAIN[text]} ({value}) found.register refl {stands} ({lemma} "
                 f"{proof.stack(state)} memory {self.program.amount(left)} {self.program.amount(right)} {proof.holds(left)} "
-                f"{proof.holds(right)} found.ten found.register found.of_ten ({exact} itself {self.nat(left)} {self.nat(right)} "
-                f"found.ten {order}found.units_is))")
+                f"{proof.holds(right)} found.ten found.register found.of_ten ({nearest}))")
+
+    def part_of_whole(self, point: Point) -> str:
+        """Returns the lemma of INT or MOD."""
+        proof, result, x = self.proof, point.result, point.state.x
+        assert result
+        common, stands, known = proof.common(point), f"l{point.at}.stands", f"{proof.stack(point.state)} memory"
+        begin = f"works_on_{'one' if result.op == 'INT' else 'two'} {common} {proof.lift(point.state)} functions.{PLAIN[result.op]}"
+        if result.op == "INT":
+            parts = proof.counters.parts(x)
+            is_part = f"(count_is {parts[0]} {parts[1]} (omega {self.known(point.facts)}))" if parts else f"(whole_part {self.nat(x)})"
+            part = f"(pos ({self.nat(result)} * one))"
+            nearest = "(subst (λ (z : ℤ). Nearest z 1 (Ok found.ten)) found.units_is (itself found.ten))"
+            return (f"{begin} (OfOne ones.IntegerPart X) found.register refl {stands} (made_whole {known} {proof.program.amount(x)} "
+                    f"{proof.holds(x)} found.ten found.register found.of_ten {part} {is_part} {nearest})")
+        left, right = result.args
+        y, divisor = self.nat(left), self.nat(right)
+        first, second = (f"(whole_in registers {one} (omega {self.known(point.facts)}))" for one in (y, divisor))
+        rest = (f"(modulo_some itself {y} {divisor} ({y} / {divisor}) ({y} % {divisor}) (whole_remainder {y} {divisor} (omega arith)) "
+                f"{first}.ten {second}.ten found.ten {first}.units_is {second}.units_is found.units_is (omega arith))")
+        return (f"{begin} (OfTwo twos.Remainder Y X) found.register refl {stands} (reduced {known} {proof.program.amount(left)} "
+                f"{proof.program.amount(right)} {proof.holds(left)} {proof.holds(right)} found.ten found.register found.of_ten "
+                f"{first}.ten {second}.ten {first}.units_is {second}.units_is {rest})")
+
+    def counted_past(self, point: Point) -> str:
+        """Returns the lemma of a line that counts a whole number up, after which the next line is skipped."""
+        line, value = RegisterProof(self.proof, point), point.state.register(f"R{point.register:02}")
+        number = self.nat(value)
+        return (f"goes_past itself {line.place()} {line.lift} parameters.IncrementSkip Up refl refl refl {line.stands} "
+                f"{self.program.amount(value)} {self.proof.holds(value)} found.ten found.register found.of_ten (found.units_is ∙ sym "
+                f"(number_up_whole {number})) (passes_whole {number}) _ l{point.at + 1}.next l{point.at + 1}.stands")
 
     def compare(self, point: Point) -> None:
         """Writes the statement of a test that compares whole numbers: both ways."""
@@ -129,7 +174,8 @@ class WholeProof:
     def truth(self, point: Point, text: str, is_less: bool, first: str, second: str) -> str:
         """Returns the proof of the truth value of what a test compares."""
         if text in COMPARED:
-            return f"{COMPARED[text][0 if is_less else 1]} {first} {second} which"
+            order = f"{second} {first}" if "=" in text else f"{first} {second}"
+            return f"{COMPARED[text][0 if is_less else 1]} {order} which"
         x = point.state.x
         known = f"{self.proof.register(x)} {self.nat(x)} which {self.is_whole(x)}"
         found = f"is_some {known}" if is_less else f"is_zero determined {known}"
@@ -141,14 +187,17 @@ class WholeProof:
         """Returns what a round of a loop is: what it begins with, and what the program leaves from there."""
         proof, number = self.proof, loop.number
         assert loop.start
-        facts = proof.given(loop.start.facts[:-1])
-        most = Count(loop.rest(), ((loop.round(), "left"),))
+        facts = proof.given(loop.known[:-1], len(loop.context))
         at = proof.at(loop.place)
         lift = proof.lift(loop.state)
-        return [f"Round_{number} : ℕ → Type 0",
-                f"Round_{number} left = {facts}left ≡ {loop.measure} → (memory : RegisterMap)",
+        return [f"Round_{number} : {proof.given(loop.context)}ℕ → Type 0",
+                f"{self.within(loop, 'Round')} left = {facts}left ≡ {loop.measure} → (memory : RegisterMap)",
                 f"    → HasBecome old {proof.stack(loop.state)} {proof.contents(loop.state)} memory",
-                f"    → Leaves pages {most} (before_line memory {at} false returns {lift}) After"]
+                f"    → Leaves pages {loop.most('left')} (before_line memory {at} false returns {lift}) After"]
+
+    def within(self, loop: Loop, name: str) -> str:
+        """Returns the name of a statement about a loop, with what is known from the loops in which it is."""
+        return " ".join([f"{name}_{loop.number}", *self.proof.listed(loop.context)])
 
     def loop(self, loop: Loop) -> None:
         """Writes the statements of a loop: its points, and that it ends."""
@@ -158,13 +207,15 @@ class WholeProof:
         proof, number = self.proof, loop.number
         rows = self.rows_of(loop)
         proof.put(loop.start, "\n".join(["abbrev " + rows[0], *rows[1:]]))
-        proof.put(loop.start, f"abbrev Again_{number} : ℕ → Type 0\n"
-                              f"Again_{number} left = (fewer : ℕ) → fewer < left → Round_{number} fewer")
+        context, round_of = proof.given(loop.context), self.within(loop, "Round")
+        proof.put(loop.start, f"abbrev Again_{number} : {context}ℕ → Type 0\n"
+                              f"{self.within(loop, 'Again')} left = (fewer : ℕ) → fewer < left → {round_of} fewer")
         proof.define(loop.start)
-        names = proof.names(loop.start.facts[:-1])
+        names, own = proof.names(loop.known[:-1]), proof.names(loop.known[:-1], len(loop.context))
+        shown = f"({round_of})" if loop.context else round_of
         proof.put(loop.start, "\n".join([
-            f"loop_{number} : (left : ℕ) → Round_{number} left",
-            f"loop_{number} = by_rounds Round_{number} (λ (left : ℕ) again {names} counted memory has. {loop.start.name} {names} left "
+            f"loop_{number} : {context}(left : ℕ) → {round_of} left",
+            f"{self.within(loop, 'loop')} = by_rounds {shown} (λ (left : ℕ) again {own} counted memory has. {loop.start.name} {names} left "
             "again counted memory has)"]))
 
     def arguments(self, loop: Loop, state: State) -> str:
@@ -176,7 +227,10 @@ class WholeProof:
             if not fact.left:
                 continue
             here = state.register(self.register_of(fact.left))
-            if fact.left.args:
+            parts = self.walk.parts_of(fact.left) and self.proof.counters.parts(here)
+            if parts:
+                found += [*parts, self.proof.register(here), self.is_whole(here), self.small(here), f"few_{here.name.lower()}"]
+            elif fact.left.args:
                 found += [self.nat(here), self.proof.register(here), self.is_whole(here), self.small(here)]
             else:
                 found.append(self.proof.register(here))
@@ -214,44 +268,53 @@ class WholeProof:
     def enter(self, point: Point) -> None:
         """Writes the statement of the place at which a loop begins."""
         assert point.entered
-        loop, measure, _ = point.entered
+        loop, measure = point.entered
         self.loop(loop)
         proof, names, known = self.proof, self.proof.names(point.facts), self.known(point.facts)
-        arguments = self.arguments(loop, point.state)
+        run = (f"{self.within(loop, 'loop')} {measure} {self.arguments(loop, point.state)} refl memory "
+               f"{self.restated(loop, point.state)}")
+        rows = [f"    {run}"]
+        most, bound = loop.most(measure), self.whole_walk().bound(measure, point.facts)
+        if str(most) != str(point.most):
+            rows = [f"    let bounded : {measure} ≤ {bound} = omega {known} in",
+                    f"    more_lines_suffice pages {most} {point.most} _ After (omega (arith, mul-le-mul_left {loop.round()} bounded))",
+                    f"    ({run})"]
         proof.put_rows(point, [
             (f"{point.name} : {proof.given(point.facts)}{proof.leaves(point)}", 0, ""), (f"{point.name} {names} memory has =", 0, ""),
-            *self.comparisons(point, loop, known),
-            (f"    loop_{loop.number} {measure} {arguments} refl memory {self.restated(loop, point.state)}",
-             0, "")])
+            *self.comparisons(point, loop, known), *((one, 0, "") for one in rows)])
 
     def again(self, point: Point) -> None:
         """Writes the statement of the end of a round that another one follows."""
-        loop = point.loop
+        loop = point.again
         assert loop
         proof, names, known = self.proof, self.proof.names(point.facts), self.known(point.facts)
         measure, number = self.whole_walk().measure(loop, point.state), loop.number
         arguments = self.arguments(loop, point.state)
-        most = Count(loop.rest(), ((loop.round(), measure),))
         contract = loop.contract
+        enough, falls = "less", []
+        if loop.round().parts:
+            enough = f"mul-le-mul_left {loop.round()} falls"
+            falls = [(f"    let falls : {measure} + 1 ≤ left_{number} = omega (arith, less) in", 0, "")]
         proof.put_rows(point, [
             (f"{point.name} : {proof.given(point.facts)}{proof.leaves(point)}", 0, ""), (f"{point.name} {names} memory has =", 0, ""),
             *self.comparisons(point, loop, known),
             (f"    let less : {measure} < left_{number} = omega {known} in", contract.measure_line, f"decreases {contract.measure}"),
-            (f"    more_lines_suffice pages {most} {point.most} _ After (omega (arith, less))", 0, ""),
+            *falls, (f"    more_lines_suffice pages {loop.most(measure)} {point.most} _ After (omega (arith, {enough}))", 0, ""),
             (f"    (again_{number} {measure} less {arguments} refl memory {self.restated(loop, point.state)})", 0, "")])
 
     # Claims.
 
-    def claim(self, point: Point, register: str, value: Term) -> str:
-        """Returns the proof that a register contains a whole number at the end of the program."""
+    def claim(self, point: Point, register: str, value: Term, more: list[str]) -> str:
+        """Returns the proof that a register contains a whole number at the end of the program. `more` are names of what is known."""
         reached = point.state.register(register)
-        same = f"omega {self.known(point.facts)}"
+        same = f"omega {self.known(point.facts, *more)}"
         return (f"(let same : {self.nat(reached)} ≡ {self.nat(value)} = {same} in subst (λ (n : ℕ). IsRegisterOf (pos (n * one)) "
                 f"{self.proof.register(reached)}) same {self.is_whole(reached)})")
 
-    def same_register(self, point: Point, register: str, value: Term) -> str:
-        """Returns the proof that a register contains what another one contained before the program, by their whole numbers."""
+    def same_register(self, point: Point, register: str, value: Term, more: list[str]) -> str:
+        """Returns the proof that a register contains what another one contained before the program, by their whole numbers. `more` are
+        names of what is known."""
         reached = point.state.register(register)
-        found = self.claim(point, register, value)
+        found = self.claim(point, register, value, more)
         return (f"(let own = {found} in determined (pos ({self.nat(value)} * one)) {self.proof.register(reached)} "
                 f"{self.proof.register(value)} own.valid {self.is_whole(value)}.valid own.holds {self.is_whole(value)}.holds)")

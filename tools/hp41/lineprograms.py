@@ -10,7 +10,7 @@ from .codes import NotProved
 from .decks import Failure, block, bytes_of, ended, hexadecimal, refused, run, shown
 from .functions import Functions
 from .lineclaims import LISTED, OPPOSITE, Condition, LineContract, LoopContract, contract_before, keyword_of, plain
-from .linesteps import Call, Point
+from .linepoints import Call, Point
 from .linetheorems import Program
 from .lineterms import LABEL, LOCAL, ProgramLine
 from .listings import Listing
@@ -223,18 +223,21 @@ def mismatches(program: Program) -> list[Mismatch]:
         for one, value, condition in program.equations:
             reached = point.state.register(one.register)
             is_whole = None not in (program.walk.nat(reached), program.walk.nat(value))
-            if reached.plain() != value and not is_whole and not excluded(point, condition):
+            if reached.plain() != value and not is_whole and not excluded(program, point, condition):
                 found.setdefault(one.text, Mismatch(one.line, one.text, f"at {program.lines[point.at].text}, line {point.at + 1} from the "
                                                     f"label on, {one.register} contains {plain(reached.text())}{path_of(point)}"))
     most = program.contract.most
     if most and (program.most.parts or most[0] < program.most.constant):
-        found[most[1]] = Mismatch(most[2], most[1], f"the program takes up to {program.most.shown()} lines")
+        count = program.most.shown()
+        found[most[1]] = Mismatch(most[2], most[1], f"the program takes up to {count} {'line' if count == '1' else 'lines'}")
     return list(found.values())
 
 
-def excluded(point: Point, condition: Condition | None) -> bool:
+def excluded(program: Program, point: Point, condition: Condition | None) -> bool:
     """Returns whether the condition of a claim is false on the path to a point."""
-    return condition is not None and any(fact.condition == replace(condition, is_true=not condition.is_true) for fact in point.facts)
+    if condition is None or program.is_never(point, condition):
+        return condition is not None
+    return any(fact.condition == replace(condition, is_true=not condition.is_true) for fact in point.facts)
 
 
 def path_of(point: Point) -> str:

@@ -3,10 +3,14 @@ from __future__ import annotations
 
 from .lineclaims import Condition, Term
 from .linecalls import CallProof
+from .linecounterproofs import CounterProof
 from .lineloops import WholeProof
-from .linelemmas import HELPERS, LAW_NAMES, LAW_TYPES, LAWS, PROOF_USED, SIMPLE, TESTS, TWO
+from .lineregisterproofs import RegisterProof
+from .lineregisters import register_line
+from .linelemmas import HELPERS, LAWS, LAW_NAMES, LAW_TYPES, ONE, PROOF_USED, SIMPLE, TESTS, TWO, chosen
 from .linesearches import Searches
-from .linesteps import EXACT, PLACES, Fact, Point, State
+from .linepoints import PLACES, Fact, Point, State
+from .linesteps import EXACT
 from .linetheorems import FAULTS, USED, Program, new_results
 from .lineterms import GO_TO, LOCAL, NAMED, PLAIN, characters_of, kinds_of, term_of
 from .statements import CRATE
@@ -23,14 +27,14 @@ class ProgramProof:
         self.bound: dict[str, str] = {}
         self.parts: list[str] = []
         self.rows: list[tuple[str, int, str]] = []
-        self.whole_part = WholeProof(self)
+        self.whole_part, self.counters = WholeProof(self), CounterProof(self)
         self.define(program.walk.start)
 
     # Values.
 
     def signed(self, term: Term) -> str:
         """Returns the decimal of a negative or an absolute value, with what is known of it, as an argument."""
-        name = {"CHS": "negative_of", "ABS": "absolute_of"}[term.op]
+        name = {"CHS": "negative_of", "ABS": "absolute_of", "SIGN": "unit_of_number"}[term.op]
         inner = term.args[0]
         return f"({name} itself decimals {self.register(inner)} {self.program.amount(inner)} {self.holds(inner)})"
 
@@ -40,7 +44,7 @@ class ProgramProof:
             return f"{self.signed(term)}.0"
         if term.args:
             return self.program.result(term)
-        return "Zero" if term.op == "zero" else self.program.number(term.name)
+        return {"zero": "Zero", "pi": "pi_ten"}.get(term.op) or self.program.number(term.name)
 
     def register(self, term: Term) -> str:
         """Returns the register of a value, as an argument."""
@@ -51,7 +55,8 @@ class ProgramProof:
     def holds(self, term: Term) -> str:
         """Returns the proof that the register contains the number of a value, as an argument."""
         if term.op in ("old", "left"):
-            return f"is_{term.name.lower()}.holds" if self.program.walk.nat(term) is not None else f"in_{term.name.lower()}"
+            name = term.name.lower()
+            return f"in_{name}" if self.program.walk.is_opaque(term) else f"is_{name}.holds"
         known = f"(register_of registers {self.decimal(term)}).1.holds"
         return f"({known} ∙ ap (λ (z : ℤ). Number z) {self.signed(term)}.1)" if term.op in EXACT else known
 
@@ -79,10 +84,10 @@ class ProgramProof:
 
     # Facts on a path.
 
-    def given(self, facts: tuple[Fact, ...]) -> str:
-        """Returns the facts as the arguments of a statement."""
+    def given(self, facts: tuple[Fact, ...], first: int = 0) -> str:
+        """Returns the facts from a place on as the arguments of a statement."""
         found = ""
-        for at, fact in enumerate(facts):
+        for at, fact in enumerate(facts[first:], first):
             if fact.result:
                 name = self.program.result(fact.result)
                 found += f"({name} : Ten) (is_{name} : {self.nearest(fact.result, f'(Ok {name})')}) → "
@@ -94,7 +99,8 @@ class ProgramProof:
                 found += f"(t{at} : {' '.join(fact.relation)}) → "
             elif fact.loop:
                 number = fact.loop.number
-                found += f"(left_{number} : ℕ) → (again_{number} : Again_{number} left_{number}) → "
+                again = " ".join([f"Again_{number}", *self.listed(fact.loop.context), f"left_{number}"])
+                found += f"(left_{number} : ℕ) → (again_{number} : {again}) → "
                 found += f"(counted_{number} : left_{number} ≡ {fact.loop.measure}) → "
             else:
                 found += f"({fact.switch} : Bool) → "
@@ -102,6 +108,8 @@ class ProgramProof:
 
     def given_left(self, left: Term) -> str:
         """Returns what is known of a register, as arguments of a statement."""
+        if self.counters.parts(left):
+            return self.counters.given(left)
         name, value = left.name, left.args
         number = self.program.walk.nat(value[0]) if value else None
         if number is not None:
@@ -111,14 +119,20 @@ class ProgramProof:
         known = f"(in_{name} : holding_of {name} ≡ Number {self.program.amount(value[0])}) → " if value else ""
         return f"({name} : List ℕ) → {known}"
 
-    def names(self, facts: tuple[Fact, ...]) -> str:
-        """Returns the names of the facts."""
-        return " ".join(self.name_of(at, fact) for at, fact in enumerate(facts))
+    def names(self, facts: tuple[Fact, ...], first: int = 0) -> str:
+        """Returns the names of the facts from a place on."""
+        return " ".join(self.listed(facts)[first:])
+
+    def listed(self, facts: tuple[Fact, ...]) -> list[str]:
+        """Returns the names of each fact."""
+        return [self.name_of(at, fact) for at, fact in enumerate(facts)]
 
     def name_of(self, at: int, fact: Fact) -> str:
         """Returns the names of a fact."""
         if fact.result:
             return f"{self.program.result(fact.result)} is_{self.program.result(fact.result)}"
+        if fact.left and self.counters.parts(fact.left):
+            return self.counters.names(fact.left)
         if fact.left:
             value, name = fact.left.args, fact.left.name
             if value and self.program.walk.nat(value[0]) is not None:
@@ -181,6 +195,14 @@ class ProgramProof:
     def define_count(self, point: Point) -> None:
         """Writes the statement of DSE."""
         self.whole_part.count(point)
+
+    def define_count_on(self, point: Point) -> None:
+        """Writes the statement of a line that counts a counter."""
+        self.counters.count(point)
+
+    def define_typed(self, point: Point) -> None:
+        """Writes the statement of a number line with a counter."""
+        self.counters.typed(point)
 
     def define_enter(self, point: Point) -> None:
         """Writes the statement of the place at which a loop begins."""
@@ -262,47 +284,58 @@ class ProgramProof:
         term, after = point.result, point.after[0]
         assert term
         names, by, name = self.names(point.facts), f"{point.name}_by", self.program.result(term)
-        found = (f"(quotients {self.program.amount(term.args[0])} {self.program.amount(term.args[1])})" if term.op == "/" else
-                 f"(fractions {self.exact(term)} (omega arith))")
-        lemma = TWO.get(term.op, ("", "", "square_is_out"))[2]
+        is_quotient = term.op in ("/", "1/X")
+        found = (f"(quotients {self.exact(term)})" if is_quotient else f"(fractions {self.exact(term)} (omega arith))")
+        lemma = (TWO.get(term.op) or ONE[term.op])[2]
         rows = [f"{by} : {self.given(point.facts)}(answer : Result Ten DecimalFault) → {self.nearest(term, 'answer')} → "
                 f"{self.leaves(point)}",
                 f"{by} {names} (Ok {name}) is_{name} memory has =\n    "
                 f"{self.go_on(point, after, self.step(point), self.names(after.facts))}",
                 f"{by} {names} (Err Range) is memory has =\n    {self.failing(point, 'OUT OF RANGE', lemma)}",
                 f"{by} {names} (Err Data) is memory has =\n    " +
-                (self.failing(point, "DATA ERROR", "no_quotient") if term.op == "/" else f"absurd (never_data {self.exact(term)} is)"),
+                (self.failing(point, "DATA ERROR", "no_quotient" if term.op == "/" else "no_inverse") if is_quotient else
+                 f"absurd (never_data {self.exact(term)} is)"),
                 "", f"{point.name} : {self.given(point.facts)}{self.leaves(point)}",
                 f"{point.name} {names} memory has = {by} {names} {found}.answer {found}.right memory has"]
         self.put(point, "\n".join(rows))
 
     def exact(self, term: Term) -> str:
         """Returns the exact value of an operation: a numerator and a denominator, as two arguments."""
-        return self.nearest(term, "").removeprefix("Nearest ").strip()
+        return self.nearest(term, "").partition(" ")[2].strip()
 
     def failing(self, point: Point, error: str, lemma: str) -> str:
         """Returns the proof that a function stops the program with an error."""
+        errors = self.program.contract.errors
+        text, place = self.program.lines[point.at].text, chosen(errors.index(error), len(errors))
+        stops = RegisterProof(self, point).failing(error) if register_line(text) else self.stopping(point, error, lemma)
+        return (f"more_lines_suffice pages 1 {point.most} _ After (omega arith)\n    (by_last pages _ _ After\n    ({stops})\n    "
+                f"{place})")
+
+    def stopping(self, point: Point, error: str, lemma: str) -> str:
+        """Returns the lemma of a function without an operand that stops the program with an error."""
         term, state = point.result, point.state
         assert term
-        row = f"(rows.of_y_and_x ({TWO[term.op][0]}))" if term.op in TWO else "(rows.of_x (values.Product X X))"
+        row = f"(rows.of_y_and_x ({TWO[term.op][0]}))" if term.op in TWO else f"(rows.of_x ({ONE[term.op][0]}))"
         known = f"{self.stack(state)} memory {' '.join(map(self.program.amount, term.args))} {' '.join(map(self.holds, term.args))}"
         clear = f"(clear_there {self.common(point)} range_ignore clear_24)"
-        errors = self.program.contract.errors
-        place = chosen(errors.index(error), len(errors))
-        return (f"more_lines_suffice pages 1 {point.most} _ After (omega arith)\n    (by_last pages _ _ After\n    "
-                f"(fails {self.common(point)} {self.lift(state)} functions.{PLAIN[self.program.lines[point.at].text]} {row} "
-                f"{FAULTS[error]} refl l{point.at}.stands clear_25 ({lemma} {known} {clear} is))\n    {place})")
+        return (f"fails {self.common(point)} {self.lift(state)} functions.{PLAIN[self.program.lines[point.at].text]} {row} "
+                f"{FAULTS[error]} refl l{point.at}.stands clear_25 ({lemma} {known} {clear} is)")
 
     def step(self, point: Point) -> str:
         """Returns the lemma of a line that continues."""
         text, state, common = self.program.lines[point.at].text, point.state, self.common(point)
         lift, stands = self.lift(state), f"l{point.at}.stands"
+        if register_line(text):
+            return RegisterProof(self, point).step()
         if point.result:
             return self.computing(point, point.result)
         if text in SIMPLE:
             return f"{SIMPLE[text]} {common} {lift} {stands}"
-        if text == "CLX":
-            return f"clears_x {common} {lift} (register_of registers Zero).0 (register_of registers Zero).1 {stands}"
+        if text in ("CLX", "CLST"):
+            zero = "(register_of registers Zero)"
+            return f"{'clears_x' if text == 'CLX' else 'clears_stack'} {common} {lift} {zero}.0 {zero}.1 {stands}"
+        if text == "PI":
+            return f"recalls_pi {common} itself (register_of registers pi_ten).0 (register_of registers pi_ten).1 {stands} {lift}"
         if text == "LASTX":
             return f"recalls_last {common} {stands} {lift}"
         if NAMED.fullmatch(text):
@@ -313,9 +346,6 @@ class ProgramProof:
         local = LOCAL.fullmatch(text)
         if local:
             return f"passes_label {common} {lift} {int(local[1])} {stands}"
-        if text[:4] in ("RCL ", "STO "):
-            inside = f"{int(text[4:])} (omega (arith, inside))"
-            return (f"recalls {common} {inside} {stands} {lift}" if text.startswith("RCL") else f"stores {common} {lift} {inside} {stands}")
         name = self.program.number(text)
         return (f"enters_number {common} {characters_of(text)} {name} (register_of registers {name}).0 is_{name} "
                 f"(register_of registers {name}).1 {stands} {lift}")
@@ -330,14 +360,13 @@ class ProgramProof:
         if term.op == "CHS":
             return f"changes_sign {common} {lift} {result}.0 {stands} (made_negative {known} {decimal} {result}.0 {result}.1 " \
                    f"{self.signed(term)}.2)"
-        if term.op == "ABS":
-            return f"works_on_one {common} {lift} functions.AbsoluteValue (values.AbsoluteValue X) {result}.0 refl {stands} " \
-                   f"(made_absolute {known} {decimal} {result}.0 {result}.1 {self.signed(term)}.2)"
-        if term.op == "X^2":
-            return f"works_on_one {common} {lift} functions.Square (values.Product X X) {result}.0 refl {stands} " \
-                   f"(squared {known} {decimal} {result}.0 {result}.1 is_{decimal})"
-        value, lemma, _ = TWO[term.op]
-        return f"works_on_two {common} {lift} functions.{PLAIN[term.op]} ({value}) {result}.0 refl {stands} " \
+        if term.op in ("ABS", "SIGN"):
+            value, lemma = ("AbsoluteValue", "made_absolute") if term.op == "ABS" else ("Unit", "made_unit")
+            return f"works_on_one {common} {lift} functions.{PLAIN[term.op]} (OfOne ones.{value} X) {result}.0 refl {stands} " \
+                   f"({lemma} {known} {decimal} {result}.0 {result}.1 {self.signed(term)}.2)"
+        value, lemma, _ = TWO.get(term.op) or ONE[term.op]
+        count = "two" if term.op in TWO else "one"
+        return f"works_on_{count} {common} {lift} functions.{PLAIN[term.op]} ({value}) {result}.0 refl {stands} " \
                f"({lemma} {known} {decimal} {result}.0 {result}.1 is_{decimal})"
 
     def define_end(self, point: Point) -> None:
@@ -357,9 +386,11 @@ class ProgramProof:
                 f"{'(inl ' if program.contract.errors else ''}record {{")
         self.put(point, "\n".join([head, *(f"      {one}" for one in fields)]))
         for at in range(len(program.equations)):
-            self.parts[-1] += f"\n      claim_{at + 1} = {self.claim(point, at)};"
             one = program.equations[at][0]
-            self.rows.append(("", one.line, one.text))
+            small = [f"small_{at + 1} = omega {self.whole_part.known(point.facts)};"] if program.is_sum(at) else []
+            for row in [f"claim_{at + 1} = {self.claim(point, at)};", *small]:
+                self.parts[-1] += f"\n      {row}"
+                self.rows.append(("", one.line, one.text))
         self.parts[-1] += "\n    }" + ")" * (bool(program.contract.errors) + bool(more))
         self.rows.append(("", program.lines[point.at].number, ""))
 
@@ -380,11 +411,14 @@ class ProgramProof:
         if known is not None and condition:
             both = f"if_so t{known}" if condition.is_true else f"t{known} if_so"
             return f"λ if_so. absurd (clash {self.truth(condition)} {both})"
+        if condition and self.program.is_never(point, condition):
+            return f"λ if_so. absurd (omega {self.whole_part.known(point.facts, 'if_so')})"
+        more = ["if_so"] if condition and self.program.compared(condition) else []
         results = "".join(f"{self.program.result(term)}, is_{self.program.result(term)}, " for term in new_results(self.program, value))
         if self.program.walk.nat(value) is not None:
             reached = point.state.register(one.register)
-            proof = ("refl" if value == reached else self.whole_part.same_register(point, one.register, value) if value.op == "old" else
-                     self.whole_part.claim(point, one.register, value))
+            proof = ("refl" if value == reached else self.whole_part.same_register(point, one.register, value, more)
+                     if value.op == "old" else self.whole_part.claim(point, one.register, value, more))
         else:
             proof = "refl" if value.op == "old" else self.holds(point.state.register(one.register))
         return f"{'λ if_so. ' if condition else ''}{f'({results}{proof})' if results else proof}"
@@ -459,13 +493,3 @@ class ProgramProof:
             f"({' '.join([own_start, 's at place', *on])})",
             f"    (run {LAW_NAMES} pages s.memory at s.focal.at_line_00 s.focal.returns {lift} is_memory.status sound "
             f"{' '.join(own)} has)", ""])
-
-
-def chosen(place: int, count: int) -> str:
-    """Returns the proof of one of several errors, which are the last parts of a disjunction of `count` + 1 parts."""
-    found = "refl"
-    if place < count - 1:
-        found = f"(inl {found})"
-    for _ in range(place + 1):
-        found = f"(inr {found})"
-    return found

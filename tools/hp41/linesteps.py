@@ -2,31 +2,33 @@
 from __future__ import annotations
 
 import re
-from dataclasses import dataclass, field, replace
+from dataclasses import replace
 from decimal import Decimal
-from typing import TYPE_CHECKING, Callable, NamedTuple
+from typing import TYPE_CHECKING, Callable
 
 from .claims import Wrong
 from .codes import NotProved
-from .lineclaims import ZERO, Condition, LineContract, LoopContract, Relation, Term, condition_of, old, plain
-from .lineterms import CALL, CALL_NAMED, COUNT, GO_TO, NUMBER, REGISTER, TEST, ProgramLine, term_of
+from .lineclaims import PI, ZERO, Condition, LineContract, Term, condition_of, plain
+from .linecounts import Count
+from .linemoves import moved
+from .linepoints import Call, Fact, Loop, NeedsWholes, PLACES, Point, START, State
+from .lineregisters import COUNTS, INTO, RegisterLine, register_line, registers_in
+from .lineterms import CALL, CALL_NAMED, GO_TO, NUMBER, TEST, ProgramLine, term_of
 
 if TYPE_CHECKING:
     from .linetheorems import Program
 
-# The registers of the stack as the definitions name them.
-PLACES = {"T": "t", "Z": "z", "Y": "y", "X": "x", "L": "last"}
-
-OF_TWO, OF_ONE = ("+", "-", "*", "/"), ("X^2", "CHS", "ABS")
-EXACT = ("CHS", "ABS")
+OF_TWO, OF_ONE = ("+", "-", "*", "/", "MOD"), ("X^2", "CHS", "ABS", "SQRT", "1/X", "INT", "SIGN")
+EXACT = ("CHS", "ABS", "SIGN")
+WHOLE_PARTS = ("INT", "MOD", "COUNT", "FINAL")
 ENDS = ("RTN", "END")
 MOST_POINTS = 400
 
 # What to write in place of a line that is not supported.
 BRANCH = re.compile("(GTO|XEQ) ")
-LOOP = re.compile("(ISG|DSE) ")
-NO_COUNTER = ("only DSE 00 to DSE 15 of a register that is claimed to contain a whole number are supported: count down with it, or "
-              "write the proof by hand, see A theorem of your own in docs/PROVE-YOUR-MODULE.md")
+WHOLE_ONLY = {"INT": "it is not known that X contains a whole number or a counter: add to `requires` for example `X is a whole number`",
+              "MOD": "it is not known that Y contains a whole number and X the number of a number line, from 1 on: add to `requires` for "
+                     "example `Y is a whole number`, and put a number line before MOD"}
 NO_LOOP = ("this line leads back, and nothing says that the loop ends: put comments `invariant` and `decreases` before the label, see "
            "Loops of programs in docs/PROVE-YOUR-MODULE.md")
 NO_BRANCH = ("only GTO 00 to GTO 14, XEQ 00 to XEQ 14 and XEQ with a name are supported: prove the lines up to it, or write the proof by "
@@ -35,166 +37,17 @@ NO_START = ("the label with the claims is not the first line of its program, so 
             "that label")
 
 
-@dataclass(frozen=True)
-class State:
-    """The values in the registers before a line. `written` has the data registers that were written, in their order. `lift` is None if it
-    is not known whether stack lift is on; then `switch` names the variable that says it."""
-    t: Term
-    z: Term
-    y: Term
-    x: Term
-    last: Term
-    written: tuple[tuple[int, Term], ...] = ()
-    lift: bool | None = None
-    switch: str = "lift"
-
-    def register(self, name: str) -> Term:
-        """Returns the value in a register."""
-        if name in PLACES:
-            found: Term = getattr(self, PLACES[name])
-            return found
-        return next((value for number, value in reversed(self.written) if number == int(name[1:])), old(name))
-
-    def coming(self, value: Term, lift: bool) -> State:
-        """Returns the state after a value has come into X."""
-        if lift:
-            return replace(self, t=self.z, z=self.y, y=self.x, x=value, lift=True)
-        return replace(self, x=value, lift=True)
-
-    def dropped(self, value: Term) -> State:
-        """Returns the state after a function of Y and X."""
-        return replace(self, z=self.t, y=self.z, x=value, last=self.x, lift=True)
-
-
-START = State(old("T"), old("Z"), old("Y"), old("X"), old("L"))
-
-
-class Fact(NamedTuple):
-    """What is known on a path: the result of an operation, whether a condition is true, what a subroutine or a line has left in a register,
-    the name of the variable that says whether stack lift is on, a comparison of natural numbers, or that a round of a loop has begun."""
-    result: Term | None = None
-    condition: Condition | None = None
-    left: Term | None = None
-    switch: str = ""
-    relation: tuple[str, str, str] | None = None
-    loop: Loop | None = None
-
-
-class Call(NamedTuple):
-    """A subroutine that a line calls, and the place of its label if that is in the same program."""
-    program: Program
-    place: int | None
-
-
-@dataclass(frozen=True)
-class Count:
-    """A number of lines: a constant, and multiples of natural numbers of the definitions."""
-    constant: int
-    parts: tuple[tuple[int, str], ...] = ()
-
-    def __str__(self) -> str:
-        """Returns the number as the definitions have it."""
-        found = " + ".join([*(f"{many} * {one}" for many, one in self.parts), str(self.constant)])
-        return f"({found})" if self.parts else found
-
-    def shown(self) -> str:
-        """Returns the number in words for a reader, with the registers before the program."""
-        text = str(self).removeprefix("(").removesuffix(")") if self.parts else str(self)
-        return re.sub(r"whole_(\w+)", lambda found: found[1].upper(), text)
-
-    def more(self, lines: int | Count) -> Count:
-        """Returns the number with more lines."""
-        other = lines if isinstance(lines, Count) else Count(lines)
-        return Count(self.constant + other.constant, (*self.parts, *other.parts))
-
-
-@dataclass(eq=False)
-class Loop:
-    """A loop: its number, the place of its label, its claims, the state at its label, what is known there of the registers, and whether
-    stack lift is on. `relations` are its comparisons there, `measure` is what falls, and `start` is the point at the label."""
-    number: int
-    place: int
-    contract: LoopContract
-    state: State
-    facts: tuple[Fact, ...]
-    is_on: bool
-    relations: list[tuple[str, str, str, Relation]] = field(default_factory=list)
-    measure: str = ""
-    start: Point | None = None
-
-    def round(self) -> int:
-        """Returns the greatest number of lines of a round that another one follows."""
-        return self.start.ways.get("again", 0) if self.start else 0
-
-    def rest(self) -> int:
-        """Returns the number of lines in addition to those of the rounds."""
-        return max(self.round(), self.start.ways.get("", 0) if self.start else 0)
-
-
-@dataclass
-class Point:
-    """A line that is reached, with the state before it and what is known. `kind` says what happens: `line`, `lift` (it depends on stack
-    lift), `test`, `outcome` (the result may be out of range), `call` or `end`; with whole numbers also `exact`, `compare`, `count`, and at
-    the label of a loop `enter` and `again`. `after` has the points after it. `ways` has the greatest number of lines up to the end of the
-    program or to the label of the loop, and `again` to the label of the loop in which the point is. `entered` is the loop that begins
-    here."""
-    name: str
-    at: int
-    state: State
-    facts: tuple[Fact, ...]
-    kind: str
-    after: list[Point]
-    result: Term | None = None
-    condition: Condition | None = None
-    ways: dict[str, int] = field(default_factory=dict)
-    loop: Loop | None = None
-    entered: tuple[Loop, str, Term] | None = None
-
-    def entries(self) -> list[tuple[int, Loop, str, Term]]:
-        """Returns the loops that follow, with the greatest number of lines before them, and what falls there, as the definitions have it
-        and as a term."""
-        if self.entered:
-            return [(0, *self.entered)]
-        own = 0 if self.kind == "lift" else 1
-        return [(lines + own, loop, measure, term) for one in self.after for lines, loop, measure, term in one.entries()]
-
-    @property
-    def most(self) -> Count:
-        """Returns the greatest number of lines from the point on."""
-        if self.loop:
-            left = self.ways["again"] + self.loop.rest() - self.loop.round() if "again" in self.ways else 0
-            return Count(max(self.ways.get("", 0), left), ((self.loop.round(), f"left_{self.loop.number}"),))
-        entries = self.entries()
-        parts = tuple(dict.fromkeys((loop.round(), measure) for _, loop, measure, _ in entries))
-        return Count(max([self.ways.get("", 0), *(lines + loop.rest() for lines, loop, _, _ in entries)]), parts)
-
-
 def test_of(text: str, state: State) -> Condition:
     """Returns the condition of a test: what is compared, and how."""
     right = state.y if text[-2] == "Y" else ZERO
     return condition_of(state.x, {"#": "<>"}.get(text[1:-2], text[1:-2]), right)
 
 
-def moved(text: str, state: State) -> State:
-    """Returns the state after a line that only moves values."""
-    on = replace(state, lift=True)
-    if text == "ENTER^":
-        return replace(state, t=state.z, z=state.y, y=state.x, lift=False)
-    if text == "X<>Y":
-        return replace(on, x=state.y, y=state.x)
-    if text == "RDN":
-        return replace(on, x=state.y, y=state.z, z=state.t, t=state.x)
-    if text == "R^":
-        return replace(on, x=state.t, y=state.x, z=state.y, t=state.z)
-    if text == "CLX":
-        return replace(state, x=ZERO, lift=False)
-    if text.startswith("STO"):
-        return replace(on, written=(*state.written, (int(text[4:]), state.x)))
-    return state
-
-
 class Walk:
     """All paths through a program, from a label on."""
+
+    # Whether whole numbers are followed.
+    has_wholes = False
 
     def __init__(self, lines: list[ProgramLine], contract: LineContract, is_start: bool = True,
                  called: Callable[[int], Call] | None = None) -> None:
@@ -210,6 +63,9 @@ class Walk:
         self.last = 0
         for term, line in contract.in_range:
             for part in term.parts():
+                if part.op in WHOLE_PARTS:
+                    raise Wrong(line, 1, f"{part.op} is not supported before `is in range`: its result is a whole number, which is always "
+                                "in range")
                 if part.args and part.op not in EXACT and part not in self.required:
                     self.required.append(self.resolved(part))
             if term.op in EXACT:
@@ -230,10 +86,10 @@ class Walk:
             found += point.after
         return found
 
-    def all_written(self) -> list[int]:
-        """Returns the data registers that lines of the program write."""
-        end = next((place for place, line in enumerate(self.lines) if line.text == "END"), len(self.lines))
-        return registers_in([line for line in self.lines[:end] if line.text.startswith(("STO", "DSE"))])
+    def found_registers(self, is_written: bool = False) -> list[int]:
+        """Returns the data registers that lines use, or those that they write."""
+        return sorted({point.register for point in self.points() if point.register is not None
+                       and not (is_written and self.lines[point.at].text.startswith("RCL"))})
 
     def tests(self) -> set[Condition]:
         """Returns the conditions of all tests that are reached."""
@@ -258,41 +114,45 @@ class Walk:
             raise self.fail(at, "no line follows, and the program does not return: add RTN or END after this line")
         self.last = max(self.last, at)
         self.check(at)
-        made = Point(f"p{self.count}", at, state, facts, "line", [])
+        made = Point(f"p{self.count}", at, state, facts, "line", [], loops=self.inside())
         self.follow(made, self.lines[at].text)
-        made.ways = {"": 1} if made.kind == "end" else {}
-        own = 0 if made.kind == "lift" else 1 + self.calls[at].program.most.constant if made.kind == "call" else 1
-        for one in made.after:
-            for way, lines in one.ways.items():
-                made.ways[way] = max(made.ways.get(way, 0), lines + own)
+        made.measured()
         return made
+
+    def inside(self) -> tuple[Loop, ...]:
+        """Returns the loops in which the next point is."""
+        return ()
 
     def nat(self, term: Term) -> str | None:
         """Returns a value as a natural number of the definitions; None if whole numbers are not followed."""
         return None
+
+    def parts_of(self, term: Term) -> tuple[Term, Term] | None:
+        """Returns the count and the final count of a value; None if counters are not followed."""
+        return None
+
+    def is_opaque(self, term: Term) -> bool:
+        """Returns whether a value is neither a whole number nor a counter that is followed."""
+        return self.nat(term) is None and self.parts_of(term) is None
 
     def check(self, at: int) -> None:
         """Checks that a line is supported."""
         text = self.lines[at].text
         if BRANCH.match(text) and not any(form.fullmatch(text) for form in (GO_TO, CALL, CALL_NAMED)):
             raise self.fail(at, NO_BRANCH)
-        if LOOP.match(text) and not self.can_count(text):
-            raise self.fail(at, NO_COUNTER)
         if term_of(text, at) is None:
             raise self.fail(at, "this line is not supported: see the supported lines in docs/PROVE-YOUR-MODULE.md")
-
-    def can_count(self, text: str) -> bool:
-        """Returns whether ISG or DSE is supported."""
-        return False
 
     def follow(self, made: Point, text: str) -> None:
         """Adds the points after a point."""
         state, at = made.state, made.at
+        register = register_line(text)
         if text in ENDS:
             made.kind = "end"
-        elif NUMBER.fullmatch(text) or text == "LASTX" or text.startswith("RCL"):
-            name = "L" if text == "LASTX" else f"R{text[4:]}"
-            self.come(made, Term("number", (), text) if NUMBER.fullmatch(text) else state.register(name))
+        elif register:
+            self.use_register(made, register)
+        elif NUMBER.fullmatch(text) or text in ("LASTX", "PI"):
+            self.come(made, {"LASTX": state.last, "PI": PI}.get(text) or Term("number", (), text))
         elif GO_TO.fullmatch(text):
             made.after = [self.point(self.target(at, text), state, made.facts)]
         elif text.startswith("XEQ"):
@@ -305,6 +165,30 @@ class Walk:
             self.compute(made, Term(text, (state.x,)))
         else:
             made.after = [self.point(at + 1, moved(text, state), made.facts)]
+
+    def use_register(self, made: Point, line: RegisterLine) -> None:
+        """Adds the points after a line with a data register."""
+        state, number = made.state, self.register_of(made, line)
+        made.register = number
+        value = state.register(f"R{number:02}")
+        if line.function == "RCL":
+            self.come(made, value)
+        elif line.function in INTO:
+            self.compute(made, Term(INTO[line.function], (value, state.x)))
+        elif line.function in COUNTS:
+            self.count_on(made, line.function, number)
+        else:
+            x = value if line.function == "X<>" else state.x
+            after = replace(state, x=x, lift=True, written=(*state.written, (number, state.x)))
+            made.after = [self.point(made.at + 1, after, made.facts)]
+
+    def register_of(self, made: Point, line: RegisterLine) -> int:
+        """Returns the data register that a line uses."""
+        return line.number
+
+    def count_on(self, made: Point, function: str, number: int) -> None:
+        """Adds the points after a line that counts a loop."""
+        raise NotImplementedError
 
     def target(self, at: int, text: str) -> int:
         """Returns the place of the label to which GTO leads: the first one after the line, before END."""
@@ -322,7 +206,7 @@ class Walk:
     def come(self, made: Point, value: Term) -> None:
         """Adds the points after a line that brings a value into X."""
         if made.state.lift is None:
-            made.kind = "lift"
+            made.kind, made.own = "lift", Count(0)
             made.after = [self.point(made.at, replace(made.state, lift=on), made.facts) for on in (True, False)]
         else:
             made.after = [self.point(made.at + 1, made.state.coming(value, made.state.lift), made.facts)]
@@ -351,19 +235,28 @@ class Walk:
         if result.op not in EXACT and not self.is_in_range(result, facts):
             made.kind = "outcome"
             facts = (*facts, Fact(result.plain()))
+            if result.op in WHOLE_ONLY:
+                raise self.fail(made.at, WHOLE_ONLY[result.op])
+            if result.op == "SQRT":
+                raise self.fail(made.at, f"the root may not exist: add `{asked(result)} is in range` to `requires`")
             if "OUT OF RANGE" not in self.contract.errors:
                 raise self.fail(made.at, f"the result may be out of range: add `{asked(result)} is in range` to `requires`, or "
                                          "`or OUT OF RANGE` to `ensures`")
-            if result.op == "/" and "DATA ERROR" not in self.contract.errors:
+            if result.op in ("/", "1/X") and "DATA ERROR" not in self.contract.errors:
                 raise self.fail(made.at, f"the divisor may be zero: add `{asked(result)} is in range` to `requires`, or `or DATA ERROR` "
                                          "to `ensures`")
+        made.after = [self.point(made.at + 1, self.computed(made, result), facts)]
+
+    def computed(self, made: Point, value: Term) -> State:
+        """Returns the state after a function whose result is a value."""
+        state, result = made.state, made.result
+        assert result
+        on = replace(state, lift=True)
+        if made.register is not None:
+            return replace(on, written=(*state.written, (made.register, value)))
         if result.op == "CHS":
-            after = replace(made.state, x=result, lift=True)
-        elif len(result.args) == 1:
-            after = replace(made.state, x=result, last=made.state.x, lift=True)
-        else:
-            after = made.state.dropped(result)
-        made.after = [self.point(made.at + 1, after, facts)]
+            return replace(on, x=value)
+        return state.dropped(value) if len(result.args) > 1 else replace(on, x=value, last=state.x)
 
     def is_in_range(self, result: Term, facts: tuple[Fact, ...]) -> bool:
         """Returns whether it is known that a result is in range."""
@@ -380,15 +273,19 @@ class Walk:
         if found.place is not None:
             self.last = max(self.last, found.place + len(found.program.lines) - 1)
         self.check_call(made, found.program)
+        made.own = self.lines_of(found.program, made.state, made.facts).more(1)
         state, facts = left_by(found.program, made.state, self.count)
         made.after = [self.point(made.at + 1, state, (*made.facts, *facts))]
+
+    def lines_of(self, callee: Program, state: State, facts: tuple[Fact, ...]) -> Count:
+        """Returns the greatest number of lines of a subroutine."""
+        return callee.most
 
     def check_call(self, made: Point, callee: Program) -> None:
         """Checks that the requirements of a subroutine are met."""
         contract, name = callee.contract, callee.shown
-        if callee.is_whole:
-            raise self.fail(made.at, f"{name} has claims about whole numbers or loops, and calls of such a label are not supported: write "
-                                     "the proof by hand, see A theorem of your own in docs/PROVE-YOUR-MODULE.md")
+        if callee.is_whole and not self.has_wholes:
+            raise NeedsWholes
         if contract.errors:
             raise self.fail(made.at, f"{name} may stop with {contract.errors[0]}: require there what excludes the error, and remove "
                                      f"`or {contract.errors[0]}`, because only a subroutine that always returns can be called")
@@ -468,7 +365,6 @@ def value_of(text: str) -> Decimal | None:
         return None
 
 
-def registers_in(lines: list[ProgramLine]) -> list[int]:
-    """Returns the data registers that lines name."""
-    found = (REGISTER.fullmatch(line.text) or COUNT.fullmatch(line.text) for line in lines)
-    return sorted({int(one[one.re.groups]) for one in found if one})
+def written_in(lines: list[ProgramLine]) -> list[int]:
+    """Returns the data registers that lines write."""
+    return registers_in([line.text for line in lines], True)

@@ -4,8 +4,11 @@ from __future__ import annotations
 import re
 from typing import NamedTuple
 
+from .lineregisters import register_line
+
 # Functions of one byte, with their names in the definitions.
 PLAIN = {"+": "Add", "-": "Subtract", "*": "Multiply", "/": "Divide", "X^2": "Square", "CHS": "ChangeSign", "ABS": "AbsoluteValue",
+         "SQRT": "SquareRoot", "1/X": "Reciprocal", "INT": "IntegerPart", "MOD": "Modulo", "CLST": "ClearStack", "PI": "Pi", "SIGN": "Signum",
          "X<>Y": "ExchangeXY", "RDN": "RollDown", "R^": "RollUp", "LASTX": "LastX", "CLX": "ClearX", "ENTER^": "Enter", "RTN": "Return",
          "X<Y?": "TestXLessThanY", "X>Y?": "TestXGreaterThanY", "X<=Y?": "TestXAtMostY", "X=Y?": "TestXEqualsY",
          "X#Y?": "TestXDiffersFromY", "X=0?": "TestXZero", "X#0?": "TestXNotZero", "X>0?": "TestXPositive", "X<0?": "TestXNegative",
@@ -17,8 +20,6 @@ LOCAL = re.compile("LBL (0[0-9]|1[0-4])")
 GO_TO = re.compile("GTO (0[0-9]|1[0-4])")
 CALL = re.compile("XEQ (0[0-9]|1[0-4])")
 CALL_NAMED = re.compile(r'XEQ "([ !#-\[\]-~]*)"')
-REGISTER = re.compile("(RCL|STO) (0[0-9]|1[0-5])")
-COUNT = re.compile("DSE (0[0-9]|1[0-5])")
 NUMBER = re.compile("(?!-$)[-0-9.E]+")
 TEST = re.compile(r"X(?:<|>|<=|=|#)[Y0]\?")
 LABEL = re.compile('LBL ".*"')
@@ -43,21 +44,17 @@ def characters_of(text: str) -> str:
 def term_of(text: str, index: int) -> str | None:
     """Returns a line as the definitions have it; None if it is not supported. The names of links and status bits have the index of the
     line."""
-    named, local, register = NAMED.fullmatch(text), LOCAL.fullmatch(text), REGISTER.fullmatch(text)
+    named, local, register = NAMED.fullmatch(text), LOCAL.fullmatch(text), register_line(text)
     if named:
         return f'lines.GlobalLabel link_{index} key_{index} (codes "{named[1]}")'
     if local:
         return f"lines.LocalLabel {int(local[1])}"
     if register:
-        function = {"RCL": "RecallRegister", "STO": "StoreRegister"}[register[1]]
-        return f"lines.Register {function} {int(register[2])}"
+        return register.term()
     if GO_TO.fullmatch(text):
         return f"lines.ShortGoTo {int(text[4:])} distance_{index}"
     if CALL.fullmatch(text):
         return f"lines.BranchTo Execute distance_{index} backwards_{index} {int(text[4:])}"
-    counted = COUNT.fullmatch(text)
-    if counted:
-        return f"lines.WithOperand DecrementSkip (Direct {int(counted[1])})"
     called = CALL_NAMED.fullmatch(text)
     if called:
         return f'lines.Named ExecuteName (codes "{called[1]}")'

@@ -7,9 +7,14 @@ from typing import Callable
 
 from .claims import Wrong
 from .lineclaims import Condition, Equation, LineContract, LoopContract, Term, old, plain
-from .linesteps import EXACT, PLACES, Call, Count, Walk, asked, registers_in
+from .linear import contradicts
+from .linebounds import rows_of
+from .linecounts import Count
+from .lineregisters import needs_counters, registers_in
+from .linepoints import PLACES, Call, NeedsWholes, Point
+from .linesteps import EXACT, Walk, asked, written_in
 from .lineterms import LOCAL, NUMBER, TRUTH, ProgramLine, characters_of, kinds_of, term_of, unknowns_of, values_of
-from .linewholes import WholeWalk
+from .linewholes import SIGNS, WholeWalk
 from .statements import CRATE
 
 # The calculator keeps this many return addresses.
@@ -17,21 +22,22 @@ RETURNS = 6
 
 FAULTS = {"OUT OF RANGE": "OutOfRange", "DATA ERROR": "DataError"}
 
-USED = """use Rattle.std.specs.Prelude.{◌≡◌, ℕ, ◌+◌, ◌-◌, ◌*◌, ◌^◌, ◌<◌, ◌≤◌, ◌⊎◌, Bool, true, false, List, [], ◌∷◌, Ok}
+USED = """use Rattle.std.specs.Prelude.{◌≡◌, ℕ, ◌+◌, ◌-◌, ◌*◌, ◌/◌, ◌%◌, ◌^◌, ◌<◌, ◌≤◌, ◌⊎◌, Bool, true, false, List, [], ◌∷◌, Ok}
 use Rattle.std.specs.Prelude.{codes, bytes_eq, length}
 use Rattle.std.specs.Prelude.{ℤ, pos, neg_ℤ, ◌+ℤ◌, ◌-ℤ◌, ◌*ℤ◌, int_le, int_lt, unsigned_abs}
 use Rattle.h41_codes.specs.declared.characters.Character.TheVariants as characters
 use Rattle.h41_codes.specs.declared.functions.Branch.TheVariants.{Execute}
 use Rattle.h41_codes.specs.declared.functions.Function.TheVariants as functions
 use Rattle.h41_codes.specs.declared.functions.NameFunction.TheVariants.{ExecuteName}
-use Rattle.h41_codes.specs.declared.functions.ParameterFunction.TheVariants.{DecrementSkip}
+use Rattle.h41_codes.specs.declared.functions.ParameterFunction.TheVariants as parameters
 use Rattle.h41_codes.specs.declared.functions.RegisterFunction.TheVariants.{RecallRegister, StoreRegister}
 use Rattle.h41_codes.specs.declared.line.Line.{Line}
 use Rattle.h41_codes.specs.declared.line.Line.TheVariants as lines
-use Rattle.h41_codes.specs.declared.line.Operand.TheVariants.{Direct}
+use Rattle.h41_codes.specs.declared.line.Operand.TheVariants.{Direct, Indirect}
 use Rattle.h41_decimal.specs.Holding.{Number, holding_of}
-use Rattle.h41_decimal.specs.NearestDecimal.{Nearest}
+use Rattle.h41_decimal.specs.NearestDecimal.{Nearest, NearestRoot}
 use Rattle.h41_decimal.specs.Operations.{NearestQuotient}
+use Rattle.h41_decimal.specs.Signs.{sign_of, with_sign}
 use Rattle.h41_decimal.specs.Units.{one, units}
 use Rattle.h41_decimal.specs.declared.ten.Ten.{Ten}
 use Rattle.h41_focal.specs.LineStep.{Left}
@@ -42,6 +48,7 @@ use Rattle.h41_positions.specs.declared.position.Position.TheVariants.{Memory}
 use Rattle.h41_ram.specs.NamedFlags.{error_ignore, range_ignore}
 use Rattle.h41_ram.specs.NamedRegisters.{size_of}
 use Rattle.h41_ram.specs.RegisterMap.{IsMemory, flag_of, is_sound, zeros}
+use Rattle.h41_rows.specs.FunctionRows.{pi}
 use Rattle.h41_rows.specs.Values.{IsRegisterOf}
 use Rattle.h41_rows.specs.declared.fault.LineFault.TheVariants.{DataError, OutOfRange}
 use Rattle.h41_reasoning_lines.specs.LineRuns.{HasFailed, HasReturned, Leaves}
@@ -60,8 +67,13 @@ class Program:
         """Follows the paths. `is_start` says whether the label is the first line of a program, `called` finds the subroutine that the
         XEQ at a place calls, and `loops` has the claims about loops, by the places of their labels."""
         self.label, self.contract = label, contract
-        self.is_whole = bool(contract.wholes or loops)
-        self.walk = WholeWalk(lines, contract, is_start, called, loops or {}) if self.is_whole else Walk(lines, contract, is_start, called)
+        end = next((place for place, line in enumerate(lines) if line.text == "END"), len(lines))
+        self.is_whole = bool(contract.wholes or contract.counters or loops or any(needs_counters(line.text) for line in lines[:end]))
+        try:
+            self.walk = Walk(lines, contract, is_start, called) if not self.is_whole else WholeWalk(
+                lines, contract, is_start, called, loops or {})
+        except NeedsWholes:
+            self.is_whole, self.walk = True, WholeWalk(lines, contract, is_start, called, loops or {})
         self.lines = lines[:self.walk.last + 1]
         self.shown = lines[0].text if LOCAL.fullmatch(lines[0].text) else label
         self.name = re.sub(r"\W", "_", label, flags=re.A)
@@ -73,12 +85,12 @@ class Program:
             for one in [*call.program.subs, *([call.program] if call.place is None else [])]:
                 self.subs += [one] if one.name not in [known.name for known in self.subs] else []
         self.numbers: list[str] = sorted({*(line.text for line in self.lines
-                                 if NUMBER.fullmatch(line.text) and self.walk.nat(Term("number", (), line.text)) is None),
+                                 if NUMBER.fullmatch(line.text) and self.walk.is_opaque(Term("number", (), line.text))),
                                *(text for one in callees for text in one.numbers)})
         self.results: list[Term] = list(self.walk.required)
         self.equations: list[tuple[Equation, Term, Condition | None]] = [
             (one, self.walk.resolved(one.value), self.condition(one)) for one in contract.equations]
-        self.used: list[int] = [*registers_in(self.lines),
+        self.used: list[int] = [*registers_in([line.text for line in self.lines]), *self.walk.found_registers(),
                      *(int(name[1:]) for one in contract.equations for name in names_in(one.value, one.register)),
                      *(number for one in callees for number in one.used)]
 
@@ -91,9 +103,8 @@ class Program:
         turned = Condition({"<": "<=", "<=": "<"}.get(same.relation, ""), right, left, not same.is_true)
         tests = self.walk.tests()
         found = next((each for each in (same, turned) if replace(each, is_true=True) in tests), None)
-        if found is None and self.is_whole:
-            raise Wrong(one.line, 1, f"`{one.text}`: `if` is not supported for whole numbers: omit it, or prove the two cases as "
-                        "two programs")
+        if found is None and self.compared(same):
+            return same
         if found is None:
             raise Wrong(one.line, 1, f"`{one.text}`: no test of the program compares these two values: after `if`, write what a test "
                         "compares, for example `old X > old Y` for X>Y?, or omit `if`")
@@ -103,10 +114,28 @@ class Program:
                             "in range` to `requires`")
         return found
 
+    def compared(self, condition: Condition) -> tuple[str, str, str] | None:
+        """Returns a condition as a comparison of natural numbers of the definitions; None if it is none of whole numbers."""
+        left, right = self.walk.nat(condition.left), self.walk.nat(condition.right)
+        is_tested = not condition.is_true or condition in self.walk.tests()
+        return None if left is None or right is None or is_tested else (left, SIGNS[condition.relation], right)
+
+    def is_never(self, point: Point, condition: Condition) -> bool:
+        """Returns whether a condition about whole numbers is false on the path to a point."""
+        comparison = self.compared(condition)
+        return comparison is not None and isinstance(self.walk, WholeWalk) and contradicts(
+            [*self.walk.rows(point.facts), *rows_of(comparison)])
+
     @property
     def most(self) -> Count:
         """Returns the greatest number of lines."""
         return self.walk.start.most
+
+    def is_sum(self, at: int) -> bool:
+        """Returns whether a claim without a condition says that a register contains a whole number that the program computes."""
+        _, value, condition = self.equations[at]
+        number = self.walk.nat(value)
+        return not condition and value.op != "old" and number is not None and not number.isdigit()
 
     def number(self, text: str) -> str:
         """Returns the name of the number of a number line."""
@@ -122,22 +151,29 @@ class Program:
     def variables(self) -> list[tuple[str, str]]:
         """Returns the variables of the theorem that the claims name, with their types."""
         return [*((f"of_{name.lower()}", "ℤ") for name in self.contract.numbers),
-                *((f"whole_{name.lower()}", "ℕ") for name in self.contract.wholes), *((self.number(text), "Ten") for text in self.numbers),
+                *((f"whole_{name.lower()}", "ℕ") for name in self.contract.wholes),
+                *((f"{part}_{name.lower()}", "ℕ") for name in self.contract.counters for part in ("count", "final")),
+                *((self.number(text), "Ten") for text in self.numbers),
                 *((self.result(term), "Ten") for term in self.walk.required)]
 
     def amount(self, term: Term) -> str:
         """Returns the number of a value, as an argument."""
         number = self.walk.nat(term)
+        parts = self.walk.parts_of(term)
         if number is not None:
             return f"(pos ({number} * one))"
+        if parts:
+            return f"(pos ({self.walk.nat(parts[0])} * one + {self.walk.nat(parts[1])} * 10 ^ 105))"
         if term.op == "old":
             return f"of_{term.name.lower()}"
         if term.op == "left":
             return self.amount(term.args[0])
-        if term.op == "zero":
-            return "(pos 0)"
+        if term.op in ("zero", "pi"):
+            return "(pos 0)" if term.op == "zero" else "(pos pi)"
         if term.op == "CHS":
             return f"(neg_ℤ {self.amount(term.args[0])})"
+        if term.op == "SIGN":
+            return f"(with_sign (sign_of {self.amount(term.args[0])}) one)"
         if term.op == "ABS":
             return f"(pos (unsigned_abs {self.amount(term.args[0])}))"
         return f"(units {self.number(term.name) if term.op == 'number' else self.result(term)})"
@@ -145,8 +181,10 @@ class Program:
     def nearest(self, term: Term, answer: str) -> str:
         """Returns what it means that an answer is the result of an operation."""
         first, last = self.amount(term.args[0]), self.amount(term.args[-1])
-        if term.op == "/":
-            return f"NearestQuotient {first} {last} {answer}"
+        if term.op in ("/", "1/X"):
+            return f"NearestQuotient {first if term.op == '/' else '(pos one)'} {last} {answer}"
+        if term.op == "SQRT":
+            return f"NearestRoot {first} {answer}"
         sign, unit = {"+": ("+ℤ", "1"), "-": ("-ℤ", "1"), "*": ("*ℤ", "one"), "X^2": ("*ℤ", "one")}[term.op]
         return f"Nearest ({first} {sign} {last}) {unit} {answer}"
 
@@ -212,6 +250,10 @@ class Program:
             one = name.lower()
             rows += [(f"small_{one}", f"whole_{one} < 10 ^ 10"),
                      (f"is_{one}", f"IsRegisterOf (pos (whole_{one} * one)) {self.register(old(name), memory)}")]
+        for name in self.contract.counters:
+            one, amount = name.lower(), self.amount(old(name))
+            rows += [(f"small_{one}", f"count_{one} < 10 ^ 7"), (f"few_{one}", f"final_{one} < 1000"),
+                     (f"is_{one}", f"IsRegisterOf {amount} {self.register(old(name), memory)}")]
         rows += [(f"is_{self.number(text)}", f"IsNumberOf {characters_of(text)} {self.number(text)}") for text in self.numbers]
         rows += [(f"is_{self.result(term)}", self.nearest(term, f"(Ok {self.result(term)})")) for term in self.walk.required]
         if isinstance(self.walk, WholeWalk):
@@ -247,7 +289,7 @@ class Program:
 
     def written(self) -> list[int]:
         """Returns the data registers that lines write, and the programs that they call."""
-        own = registers_in([line for line in self.lines if line.text.startswith(("STO", "DSE"))])
+        own = [*written_in(self.lines), *self.walk.found_registers(True)]
         return sorted({*own, *(number for call in self.walk.calls.values() for number in call.program.written())})
 
 
@@ -271,7 +313,7 @@ def claim_text(program: Program, at: int) -> str:
     """Returns what an equation says of the state after the program."""
     one, value, condition = program.equations[at]
     place = f"stack.{PLACES[one.register]}" if one.register in PLACES else f"contents {int(one.register[1:])}"
-    given = f"{program.truth(condition, 's.memory')} ≡ {'true' if condition.is_true else 'false'} → " if condition else ""
+    given = f"{given_if(program, condition)} → " if condition else ""
     if value.op == "old":
         return f"{given}{place} ≡ {program.register(value, 's.memory')}"
     number = program.walk.nat(value)
@@ -282,6 +324,13 @@ def claim_text(program: Program, at: int) -> str:
     place = f"({place})" if " " in place else place
     last = f"(holding_of {place} ≡ Number {program.amount(value)})"
     return f"{given}({results}{last})" if results else f"{given}{last}"
+
+
+def given_if(program: Program, condition: Condition) -> str:
+    """Returns the condition of a claim."""
+    comparison = program.compared(condition)
+    return " ".join(comparison) if comparison else (
+        f"{program.truth(condition, 's.memory')} ≡ {'true' if condition.is_true else 'false'}")
 
 
 def binders(names: list[tuple[str, str]]) -> str:
@@ -301,6 +350,8 @@ def left_record(program: Program) -> str:
         rows.append("  pub lift : left.machine.focal.lift ≡ true")
     for at, (one, _, _) in enumerate(program.equations):
         rows += [f"  -- {one.text}", f"  pub claim_{at + 1} : {claim_text(program, at)}"]
+        if program.is_sum(at):
+            rows.append(f"  pub small_{at + 1} : {program.walk.nat(program.equations[at][1])} < 10 ^ 10")
     return "\n".join(rows)
 
 

@@ -3,11 +3,11 @@ from __future__ import annotations
 
 import random
 import re
-from decimal import ROUND_HALF_UP, Context, Decimal
+from decimal import ROUND_DOWN, ROUND_HALF_UP, Context, Decimal
 from typing import NamedTuple
 
 from .decks import Failure, block, ended, hexadecimal, run
-from .lineclaims import Condition, Equation, Relation, Term
+from .lineclaims import Condition, Equation, Relation, Term, old
 from .linesteps import value_of
 from .linetheorems import Program
 from .settings import STACK, digits_of
@@ -17,7 +17,11 @@ from .values import text_of
 TRIALS, LIMIT, SEED, PAGE, SIZE, MEMORY = 60, 100_000, 41, "F", 16, 320
 DRAWS = 4_000
 EXACT = Context(prec=10, rounding=ROUND_HALF_UP, Emax=999_999, Emin=-999_999, traps=[])
+WIDE = Context(prec=40, traps=[])
+PI = Decimal("3.141592654")
 MOST, LEAST = 99, -99
+# Functions whose results are exact.
+PARTS = ("COUNT", "FINAL", "INT", "MOD")
 WHOLE = ("0", "0", "1", "1", "2", "100", "1000", "9999999999")
 FEW = ("0", "1", "-1", "2", "3", "10", "0.5", "-2.5", "9999999999", "1E-99", "9.999999999E99", "-9.999999999E99", "123456.789", "7")
 TEXT = "10000000004142"
@@ -25,7 +29,6 @@ TEXT = "10000000004142"
 OFF = "off"
 # The name of the label that is put before a local label.
 TRIED = "TRYING"
-SIZES = Sizes(MEMORY, SIZE)
 
 
 class Outcome(NamedTuple):
@@ -79,15 +82,28 @@ def amount_in(term: Term, before: dict[str, str]) -> Decimal:
         return found
     if term.op == "left" and term.args:
         return amount_in(term.args[0], before)
-    if term.op in ("number", "zero"):
-        return value_of(term.name or "0") or Decimal(0)
+    if term.op in ("number", "zero", "pi"):
+        return PI if term.op == "pi" else value_of(term.name or "0") or Decimal(0)
+    if term.op in PARTS:
+        return part_of(term.op, [exact_in(one, before) for one in term.args])
     values = [amount_in(one, before) for one in term.args]
-    if term.op in ("CHS", "ABS"):
-        return -values[0] if term.op == "CHS" else abs(values[0])
-    if term.op == "/" and values[1] == 0:
+    if term.op in ("CHS", "ABS", "SIGN"):
+        return {"CHS": -values[0], "ABS": abs(values[0]), "SIGN": Decimal(-1 if values[0] < 0 else 1)}[term.op]
+    if term.op in ("/", "1/X") and values[-1] == 0 or term.op == "SQRT" and values[0] < 0:
         raise NoValue("DATA ERROR")
-    operation = {"+": EXACT.add, "-": EXACT.subtract, "*": EXACT.multiply, "/": EXACT.divide, "X^2": EXACT.multiply}[term.op]
-    return rounded(operation(values[0], values[-1]))
+    if term.op == "SQRT":
+        return EXACT.create_decimal(WIDE.sqrt(values[0]))
+    operation = {"+": EXACT.add, "-": EXACT.subtract, "*": EXACT.multiply, "/": EXACT.divide, "X^2": EXACT.multiply,
+                 "1/X": EXACT.divide}[term.op]
+    return rounded(operation(Decimal(1) if term.op == "1/X" else values[0], values[-1]))
+
+
+def part_of(op: str, values: list[Decimal]) -> Decimal:
+    """Returns a part of a counter, an integer part, or the remainder of whole numbers."""
+    if op == "MOD":
+        return values[0] % values[1]
+    whole = values[0].to_integral_value(ROUND_DOWN)
+    return (values[0] - whole) * 1000 // 1 if op == "FINAL" else whole
 
 
 def is_true(condition: Condition, before: dict[str, str]) -> bool:
@@ -119,6 +135,7 @@ class LineTrials:
     def __init__(self, program: Program, data: bytes) -> None:
         """Takes a program and the bytes of its file."""
         self.program, self.random = program, random.Random(SEED)
+        self.sizes = Sizes(MEMORY, max([SIZE - 1, *program.used]) + 1)
         # A local label is called by a label with a name before it.
         self.label = TRIED if program.shown != program.label else program.label
         first = program.lines[0].place
@@ -127,21 +144,24 @@ class LineTrials:
         contract = program.contract
         terms = [*(value for _, value, _ in program.equations), *(side for one in contract.relations for side in (one.left, one.right))]
         names = {part.name for term in terms for part in term.parts() if part.op == "old"}
-        self.names = sorted({*STACK, *names, *(f"R{number:02}" for number in program.used), *contract.numbers, *contract.wholes})
+        self.with_numbers = (*contract.numbers, *contract.wholes, *contract.counters)
+        self.names = sorted({*STACK, *names, *(f"R{number:02}" for number in program.used), *self.with_numbers})
 
     def draw(self) -> dict[str, str]:
         """Returns a state that may not meet the requirements."""
-        found = {}
+        found, contract = {}, self.program.contract
         for name in self.names:
             other = f"{self.random.randint(-10**6, 10**6)}E{self.random.randint(-9, 3)}"
             text = self.random.choice(FEW) if self.random.random() < 0.6 else other
-            if name in self.program.contract.wholes:
+            if name in contract.wholes:
                 text = self.random.choice(WHOLE) if self.random.random() < 0.2 else str(self.random.randint(0, 40))
-            is_text = name not in (*self.program.contract.numbers, *self.program.contract.wholes) and self.random.random() < 0.2
+            if name in contract.counters:
+                text = f"{self.random.randint(0, 12)}.{self.random.randint(0, 12):03}"
+            is_text = name not in self.with_numbers and self.random.random() < 0.2
             found[name] = TEXT if is_text else digits_of(text) or "0" * 14
-        if self.random.random() < 0.2 and not self.program.contract.wholes:
+        if self.random.random() < 0.2 and not (contract.wholes or contract.counters):
             found["Y"] = found["X"]
-        if not self.program.contract.is_lift_on and "X" not in self.program.contract.wholes and self.random.random() < 0.25:
+        if not contract.is_lift_on and "X" not in (*contract.wholes, *contract.counters) and self.random.random() < 0.25:
             found.update({"X": "0" * 14, OFF: ""})
         return found
 
@@ -165,7 +185,7 @@ class LineTrials:
 
     def address(self, name: str) -> int:
         """Returns the address of a register."""
-        return STACK[name] if name in STACK else SIZES.address(int(name[1:]))
+        return STACK[name] if name in STACK else self.sizes.address(int(name[1:]))
 
     def outcomes(self, states: list[dict[str, str]]) -> list[Outcome]:
         """Returns what the program leaves from some states."""
@@ -175,7 +195,7 @@ class LineTrials:
         for state in states:
             driver = [b"CLX", *called] if OFF in state else called
             stub = stub_of({self.address(name): digits for name, digits in state.items() if name != OFF}, {}, None)
-            deck += (f"reset\nsize {SIZE}\n".encode() + block(b"load", hexadecimal(self.data)) + block(b"program", driver)
+            deck += (f"reset\nsize {self.sizes.data}\n".encode() + block(b"load", hexadecimal(self.data)) + block(b"program", driver)
                      + f"words {PAGE}\n{stub.text}end\ncall {PAGE}000\nstep {stub.steps}\nunplug {PAGE}\n".encode()
                      + f"key R/S\nrun {LIMIT}\nshow display\n{views}".encode())
         status, output = run(deck, str(MEMORY))
@@ -220,10 +240,13 @@ class LineTrials:
         return [FalseClaim(one.line, one.text, f"from {before} {why}") for one, value, condition in self.program.equations
                 for why in self.difference(one, value, condition, state, outcome)]
 
-    def most(self, state: dict[str, str]) -> Decimal:
+    def most(self, state: dict[str, str]) -> int:
         """Returns the number of lines that suffice from a state, by what the claims about loops say."""
-        entries = self.program.walk.start.entries()
-        return self.program.most.constant + sum((loop.round() * exact_in(term, state) for _, loop, _, term in entries), Decimal(0))
+        numbers = {f"whole_{name.lower()}": int(exact_in(old(name), state)) for name in self.program.contract.wholes}
+        for name in self.program.contract.counters:
+            for part in ("COUNT", "FINAL"):
+                numbers[f"{part.lower()}_{name.lower()}"] = int(part_of(part, [exact_in(old(name), state)]))
+        return self.program.most.value(numbers)
 
     @staticmethod
     def difference(one: Equation, value: Term, condition: Condition | None, state: dict[str, str], outcome: Outcome) -> list[str]:

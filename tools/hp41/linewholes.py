@@ -1,15 +1,24 @@
-"""Follows the lines of a program that computes with whole numbers: its sums and differences are exact, tests compare whole numbers, and a
-loop is followed once, from a label at which its invariant is true."""
+"""Follows the lines of a program that computes with whole numbers: its sums and differences are exact, tests compare whole numbers, and
+each loop is followed once, from a label at which its invariant is true."""
 from __future__ import annotations
 
 from dataclasses import replace
-from typing import Callable
+from typing import TYPE_CHECKING, Callable, Hashable
 
 from .claims import Wrong
 from .codes import NotProved
-from .lineclaims import ZERO, Condition, LineContract, LoopContract, Relation, Term
-from .linesteps import NO_START, PLACES, START, Call, Fact, Loop, Point, State, Walk, value_of
-from .lineterms import COUNT, ProgramLine, term_of
+from .lineclaims import ZERO, Condition, LineContract, LoopContract, Relation, Term, old, plain
+from .linear import Row
+from .linebounds import bound_of, is_known, rows_of
+from .linecounters import COUNT_BOUND, FINAL_BOUND, CounterWalk
+from .linecounts import Count
+from .lineflow import Flow
+from .linepoints import PLACES, START, Call, Fact, Loop, Point, State
+from .linesteps import NO_START, asked, into, value_of, written_in
+from .lineterms import ProgramLine
+
+if TYPE_CHECKING:
+    from .linetheorems import Program
 
 # The first whole number that is too great.
 BOUND = 10 ** 10
@@ -18,8 +27,10 @@ BOUND = 10 ** 10
 SIGNS = {"=": "≡", "<": "<", "<=": "≤"}
 
 
-class WholeWalk(Walk):
+class WholeWalk(CounterWalk):
     """All paths through a program that computes with whole numbers, from a label on."""
+
+    has_wholes = True
 
     def __init__(self, lines: list[ProgramLine], contract: LineContract, is_start: bool, called: Callable[[int], Call] | None,
                  loops: dict[int, LoopContract]) -> None:
@@ -28,6 +39,7 @@ class WholeWalk(Walk):
         self.open: list[int] = []
         # The state before the program, in which `requires` is true.
         self.begin_state = START
+        self.flow = Flow(lines, self.callee, written_in)
         super().__init__(lines, contract, is_start, called)
 
     # Whole numbers.
@@ -47,6 +59,8 @@ class WholeWalk(Walk):
         elif term.op == "number":
             value = value_of(term.name)
             found = str(int(value)) if value is not None and value == int(value) and 0 <= value < bound else None
+        elif term.op in ("COUNT", "FINAL", "INT", "MOD"):
+            found = self.nat_of_part(term, bound)
         elif term.op in ("+", "-", "*") and term.plain() not in self.required:
             left, right = (self.nat(one, bound) for one in term.args)
             is_linear = term.op != "*" or any(one is not None and one.isdigit() for one in (left, right))
@@ -55,11 +69,11 @@ class WholeWalk(Walk):
 
     def is_number(self, term: Term) -> bool:
         """Returns whether a value is known to be a number."""
-        return self.nat(term) is not None or super().is_number(term)
+        return self.nat(term) is not None or self.parts_of(term) is not None or super().is_number(term)
 
     def need_number(self, at: int, term: Term) -> None:
         """Checks that a value is known to be a number."""
-        if self.nat(term) is None:
+        if self.nat(term) is None and self.parts_of(term) is None:
             super().need_number(at, term)
 
     def side(self, term: Term, state: State, relation: Relation) -> str:
@@ -81,6 +95,10 @@ class WholeWalk(Walk):
             raise Wrong(relation.line, 1, f"`{relation.text}`: <> is not supported here: write < or >")
         return left, SIGNS[sign], right
 
+    def given(self) -> list[tuple[str, str, str]]:
+        """Returns the comparisons that the program requires, as comparisons of natural numbers."""
+        return [self.compared(one, self.begin_state) for one in self.contract.relations]
+
     def fresh(self, value: Term) -> Term:
         """Returns a register that contains a value, with a name of its own."""
         return Term("left", (value.plain(),), f"w_{self.count}")
@@ -90,7 +108,8 @@ class WholeWalk(Walk):
     def come(self, made: Point, value: Term) -> None:
         """Adds the points after a line that brings a value into X."""
         if made.state.lift is None or value.op != "number" or self.nat(value) is None:
-            super().come(made, value)
+            if not self.typed(made, value):
+                super().come(made, value)
             return
         new = self.fresh(value)
         made.kind = "exact"
@@ -98,49 +117,24 @@ class WholeWalk(Walk):
 
     def follow(self, made: Point, text: str) -> None:
         """Adds the points after a point."""
-        if COUNT.fullmatch(text):
-            self.count_down(made, int(text[4:]))
-        elif text == "CLX":
+        if text in ("CLX", "CLST"):
             new = self.fresh(ZERO)
             made.kind = "exact"
-            made.after = [self.point(made.at + 1, replace(made.state, x=new, lift=False), (*made.facts, Fact(left=new)))]
+            after = replace(made.state, x=new, lift=False)
+            if text == "CLST":
+                after = replace(made.state, x=new, y=new, z=new, t=new, lift=True)
+            made.after = [self.point(made.at + 1, after, (*made.facts, Fact(left=new)))]
         else:
             super().follow(made, text)
 
-    def can_count(self, text: str) -> bool:
-        """Returns whether ISG or DSE is supported."""
-        return bool(COUNT.fullmatch(text))
-
-    def count_down(self, made: Point, register: int) -> None:
-        """Adds the points after DSE: at the next line if the counter is not zero, otherwise after it."""
-        value = made.state.register(f"R{register:02}")
-        if self.nat(value) is None:
-            raise self.fail(made.at, f"R{register:02} contains {value.text()}, which is not known to be a whole number: add "
-                                     f"`R{register:02} is a whole number` to `requires`, and to `invariant` if the line is in a loop")
-        self.need_next(made.at)
-        new = self.fresh(Term("-", (value, Term("number", (), "1"))))
-        number, made.kind = self.nat(new), "count"
-        assert number is not None
-        after = replace(made.state, lift=True, written=(*made.state.written, (register, new)))
-        for place, relation in ((made.at + 1, ("0", "<", number)), (made.at + 2, (number, "≤", "0"))):
-            made.after.append(self.point(place, after, (*made.facts, Fact(left=new), Fact(relation=relation))))
-
-    def need_next(self, at: int) -> None:
-        """Checks that there is a line that a test or DSE could skip."""
-        if at + 1 >= len(self.lines):
-            raise self.fail(at, "this line is the last one, so it has no line to skip: add lines after it, for example RTN and RTN")
-        if term_of(self.lines[at + 1].text, 0) is None:
-            self.check(at + 1)
-        self.last = max(self.last, at + 1)
-
     def compute(self, made: Point, result: Term) -> None:
         """Adds the points after a function."""
-        if result.op not in ("+", "-") or self.nat(result) is None:
+        if result.op not in ("+", "-", "MOD", "INT") or self.nat(result) is None:
             super().compute(made, result)
             return
         made.result, made.kind = result, "exact"
         new = self.fresh(result)
-        made.after = [self.point(made.at + 1, made.state.dropped(new), (*made.facts, Fact(left=new)))]
+        made.after = [self.point(made.at + 1, self.computed(made, new), (*made.facts, Fact(left=new)))]
 
     def test(self, made: Point, condition: Condition) -> None:
         """Adds the points after a test: which one follows depends on whole numbers, if it compares whole numbers."""
@@ -160,11 +154,93 @@ class WholeWalk(Walk):
             fact = Fact(relation=(first, "<", second) if less else (second, "≤", first))
             made.after.append(self.point(made.at + (1 if is_next else 2), replace(made.state, lift=True), (*made.facts, fact)))
 
-    def call(self, made: Point) -> None:
-        """Raises NotProved."""
-        raise self.fail(made.at, "calls in a program with claims about whole numbers or loops are not supported: put the lines of the "
-                                 "subroutine in place of XEQ, or write the proof by hand, see A theorem of your own in "
-                                 "docs/PROVE-YOUR-MODULE.md")
+    # Calls.
+
+    def callee(self, at: int) -> Call:
+        """Returns the subroutine that the XEQ at a place calls."""
+        assert self.called
+        return self.calls.get(at) or self.called(at)
+
+    def check_call(self, made: Point, callee: Program) -> None:
+        """Checks that the requirements of a subroutine are met."""
+        super().check_call(made, callee)
+        name, state = callee.shown, made.state
+        if callee.contract.counters:
+            raise self.fail(made.at, f"{name} requires a counter, and calls of such a program are not supported: put its lines in place of "
+                                     "XEQ")
+        typed = next((text for text in callee.numbers if self.nat(Term("number", (), text)) is not None), None)
+        if typed:
+            raise self.fail(made.at, f"the line {typed} of {name} is not followed as a whole number: add a claim about a whole number "
+                                     f"before {name}, for example `requires X is a whole number`")
+        for register in callee.contract.wholes:
+            term = state.register(register)
+            if self.nat(term) is None:
+                raise self.fail(made.at, f"{name} requires that {register} is a whole number, but {register} contains "
+                                         f"{plain(term.text())}, of which this is not known")
+        rows = self.rows(made.facts)
+        for one in callee.contract.relations:
+            if not is_known(self.asked_by(one, state), rows):
+                raise self.fail(made.at, f"{name} requires `{one.text}`, which does not follow from what is known here: require more, or "
+                                         "claim more in the invariant of the loop")
+        for equation, value, condition in callee.equations:
+            here = into(value, state)
+            if value.op != "old" and not condition and (callee.walk.nat(value) is None) != (self.nat(here) is None):
+                raise self.fail(made.at, f"{name} claims `{equation.text}`, and its result is a whole number only there or only here: "
+                                         f"remove `{asked(here)} is in range` from one of the two programs")
+
+    def asked_by(self, relation: Relation, state: State) -> tuple[str, str, str]:
+        """Returns a requirement of a subroutine that is called in a state, as a comparison of natural numbers."""
+        return self.compared(replace(relation, left=into(relation.left, state), right=into(relation.right, state)), state)
+
+    def lines_of(self, callee: Program, state: State, facts: tuple[Fact, ...]) -> Count:
+        """Returns the greatest number of lines of a subroutine."""
+        found = Count(callee.most.constant)
+        for many, one in callee.most.parts:
+            part = Count(many)
+            for name in one.split(" * "):
+                part = part.times(self.bound(self.number_at(name, state), facts))
+            found = found.more(part)
+        return found
+
+    def number_at(self, name: str, state: State) -> str:
+        """Returns a whole number of the claims of a subroutine that is called in a state, as a natural number of the definitions."""
+        found = self.nat(state.register(name.removeprefix("whole_").upper()))
+        assert found is not None
+        return found
+
+    # What is known of whole numbers.
+
+    def rows(self, facts: tuple[Fact, ...]) -> list[Row]:
+        """Returns what is known of whole numbers."""
+        most = str(BOUND - 1)
+        found = [(f"whole_{name.lower()}", "≤", most) for name in self.contract.wholes]
+        found += [one for name in self.contract.counters for one in self.limits(old(name))]
+        found += [self.compared(one, self.begin_state) for one in self.contract.relations]
+        for fact in facts:
+            number = self.nat(fact.left.args[0]) if fact.left and fact.left.args else None
+            if number is not None and fact.left and not fact.left.name.startswith("w_"):
+                found.append((number, "≤", most))
+            elif fact.left and self.parts_of(fact.left):
+                found += self.limits(fact.left)
+            elif fact.relation:
+                found.append(fact.relation)
+            elif fact.loop:
+                found.append((f"left_{fact.loop.number}", "≡", fact.loop.measure))
+        return [one for comparison in found for one in rows_of(comparison)]
+
+    def limits(self, term: Term) -> list[tuple[str, str, str]]:
+        """Returns how great the count and the final count of a counter can be."""
+        parts = self.parts_of(term)
+        assert parts
+        count, final = (self.nat(part) for part in parts)
+        assert count is not None and final is not None
+        return [(count, "≤", str(COUNT_BOUND - 1)), (final, "≤", str(FINAL_BOUND - 1))]
+
+    def bound(self, number: str, facts: tuple[Fact, ...]) -> Count:
+        """Returns a number that a natural number of the definitions does not exceed, in terms of those before the program."""
+        kept: set[Hashable] = {f"whole_{name.lower()}" for name in self.contract.wholes}
+        kept |= {f"{part}_{name.lower()}" for name in self.contract.counters for part in ("count", "final")}
+        return bound_of(number, self.rows(facts), kept, BOUND - 1)
 
     def target(self, at: int, text: str) -> int:
         """Returns the place of the label to which GTO leads. Only the label of a loop can be before the line."""
@@ -183,32 +259,42 @@ class WholeWalk(Walk):
 
     # Loops.
 
+    def inside(self) -> tuple[Loop, ...]:
+        """Returns the loops in which the next point is."""
+        return tuple(self.loops[place] for place in self.open)
+
     def point(self, at: int, state: State, facts: tuple[Fact, ...]) -> Point:
         """Returns the point at a line. At the label of a loop, its rounds begin or end."""
         if at not in self.claimed:
             return super().point(at, state, facts)
         self.count += 1
-        name = f"p{self.count}"
+        made = Point(f"p{self.count}", at, state, facts, "enter", [], loops=self.inside())
         self.check_round(at, state)
+        self.last = max(self.last, at)
         if at in self.open:
-            return Point(name, at, state, facts, "again", [], ways={"again": 0}, loop=self.loops[at])
+            made.kind, made.ways, made.again = "again", {self.loops[at].number: Count(0)}, self.loops[at]
+            return made
         if at not in self.loops:
-            if self.open:
-                raise self.fail(at, "a loop inside a loop, or after a loop, is not supported: turn one of them into a program of its own")
-            self.begin(at, bool(state.lift))
+            self.begin(at, bool(state.lift), [place for place in self.open if place in self.flow.reached(at)])
         elif self.loops[at].is_on and not state.lift:
             raise self.fail(at, "stack lift is on at one place from which this loop begins, and it is not known to be on at another one: "
                                 "put a line before it that turns stack lift on, for example RCL")
         loop = self.loops[at]
-        self.last = max(self.last, at)
-        return Point(name, at, state, facts, "enter", [], ways={"": 0},
-                     entered=(loop, self.measure(loop, state), self.falling(loop, state)))
+        strange = next((one for one in loop.outer if one not in made.loops), None)
+        if strange:
+            raise self.fail(at, f"this loop is a part of the loop {self.lines[strange.place].text}, and a line outside of that loop leads "
+                                "to it: let that line lead to the label of the outer loop")
+        self.enter(made, loop)
+        return made
 
-    @staticmethod
-    def falling(loop: Loop, state: State) -> Term:
-        """Returns the number that the rounds of a loop make smaller, at a state, as a term."""
-        assert loop.contract.decreases
-        return at_state(loop.contract.decreases, state)
+    def enter(self, made: Point, loop: Loop) -> None:
+        """Lets a loop begin at a point."""
+        assert loop.start
+        measure = self.measure(loop, made.state)
+        rounds = loop.round().times(self.bound(measure, made.facts))
+        made.entered = loop, measure
+        others = {way: lines for way, lines in loop.start.ways.items() if way != loop.number} or {0: Count(0)}
+        made.ways = {way: rounds.more(lines.greatest(loop.round())) for way, lines in others.items()}
 
     def check_round(self, at: int, state: State) -> None:
         """Checks that registers contain at the label of a loop what its claims say."""
@@ -217,6 +303,10 @@ class WholeWalk(Walk):
             if self.nat(state.register(name)) is None:
                 raise Wrong(line, 1, f"`{name} is a whole number`: when {label} is reached, {name} contains {state.register(name).text()}, "
                             "which is not known to be a whole number")
+        for name, line in contract.counters.items():
+            if self.parts_of(state.register(name)) is None:
+                raise Wrong(line, 1, f"`{name} is a counter`: when {label} is reached, {name} contains {state.register(name).text()}, "
+                            "which is not known to be a counter")
         for name, (value, text, line) in contract.kept.items():
             if state.register(name) != value:
                 raise Wrong(line, 1, f"`{text}`: when {label} is reached, {name} contains {state.register(name).text()}")
@@ -228,42 +318,55 @@ class WholeWalk(Walk):
         return self.side(contract.decreases, state, Relation(contract.decreases, "", contract.decreases, contract.measure,
                                                              contract.measure_line))
 
-    def begin(self, at: int, is_on: bool) -> None:
-        """Follows a round of a loop, with stack lift on at its label if that is true after each round."""
+    def begin(self, at: int, is_on: bool, outer: list[int]) -> None:
+        """Follows a round of a loop, with stack lift on at its label if that is true after each round. `outer` has the places of the loops
+        in which it is."""
         contract, number = self.claimed[at], self.count
         if contract.decreases is None:
             raise NotProved(self.lines[at].number, f"`{self.lines[at].text}`: its claims lack the number that each round of the loop makes "
                             "smaller: add `decreases` and this number, for example `decreases X`")
-        state, facts = self.at_label(at, is_on)
-        loop = Loop(number, at, contract, state, tuple(facts), is_on)
+        state, facts = self.at_label(at, is_on, outer)
+        loop = Loop(number, at, contract, state, tuple(facts), is_on, tuple(self.loops[place] for place in outer))
         self.loops[at] = loop
         loop.relations = [(*self.compared(one, state), one) for one in contract.relations]
         loop.measure = self.measure(loop, state)
-        self.open.append(at)
         relations = [Fact(relation=(left, sign, right)) for left, sign, right, _ in loop.relations]
-        loop.start = super().point(at, state, (*facts, *relations, Fact(loop=loop)))
-        self.open.pop()
-        mark(loop, loop.start)
-        if is_on and not all(one.state.lift for one in points_from(loop.start) if one.kind == "again"):
-            self.begin(at, False)
+        loop.known = (*loop.context, *facts, *relations, Fact(loop=loop))
+        before, self.open = self.open, [*outer, at]
+        loop.start = super().point(at, state, loop.known)
+        self.open = before
+        if is_on and not all(one.state.lift for one in self.ends_of(loop)):
+            self.loops = {place: one for place, one in self.loops.items() if loop not in one.outer}
+            self.begin(at, False, outer)
 
-    def at_label(self, at: int, is_on: bool) -> tuple[State, list[Fact]]:
-        """Returns the state at the label of a loop, and what is known of its registers."""
+    def ends_of(self, loop: Loop) -> list[Point]:
+        """Returns the last points of the rounds of a loop."""
+        starts = [one.start for one in self.loops.values() if one.start and (one is loop or loop in one.outer)]
+        return [one for start in starts for one in points_from(start) if one.again is loop]
+
+    def at_label(self, at: int, is_on: bool, outer: list[int]) -> tuple[State, list[Fact]]:
+        """Returns the state at the label of a loop, and what is known of its registers. A data register that is not written on the way
+        from the label of the next outer loop, nor in a round, contains what it contains at that label."""
         contract, number = self.claimed[at], self.count
+        changed = self.flow.writes(self.flow.between(outer[-1], at)) if outer else []
         facts: list[Fact] = []
 
         def content(name: str) -> Term:
             """Returns what is in a register."""
             if name in contract.kept:
                 return contract.kept[name][0]
+            if outer and name not in PLACES and int(name[1:]) not in changed:
+                return self.loops[outer[-1]].state.register(name)
             one = Term("whole", (), f"k_{name.lower()}_{number}", f"{name} at {self.lines[at].text}")
             value = (one,) if name in contract.wholes else ()
+            if name in contract.counters:
+                value = (self.unknown_counter(name, at),)
             found = Term("left", value, f"{name.lower()}_{number}", f"what {name} contains at {self.lines[at].text}")
             facts.append(Fact(left=found))
             return found
 
         stack = {place: content(name) for name, place in PLACES.items()}
-        written = tuple((one, content(f"R{one:02}")) for one in self.all_written())
+        written = tuple((one, content(f"R{one:02}")) for one in self.flow.writes({0, *self.flow.reached(0)}))
         switch = f"lift_{number}"
         return State(**stack, written=written, lift=True if is_on else None, switch=switch), [
             *facts, *([] if is_on else [Fact(switch=switch)])]
@@ -275,12 +378,6 @@ def points_from(point: Point) -> list[Point]:
     for one in found:
         found += one.after
     return found
-
-
-def mark(loop: Loop, point: Point) -> None:
-    """Gives the points of a round their loop."""
-    for one in points_from(point):
-        one.loop = loop
 
 
 def at_state(term: Term, state: State) -> Term:

@@ -6,7 +6,8 @@ from collections import Counter
 from dataclasses import replace
 from typing import Protocol
 
-from .claims import Named, Wrong, check_places, contract_before
+from .claimreading import check_places, contract_before
+from .claims import Named, Wrong
 from .decks import BENCH, NO_ANSWER, Failure
 from .codes import ADDRESSES, Bank, Code, Instruction, NotProved, Result
 from .executing import Execution
@@ -84,6 +85,8 @@ def add(code: Code, source: Assembled, name: str, keys: dict[str, str]) -> None:
     code.origins += [*source.whole.origins[:len(source.texts)], (source.whole.path, 0)]
     texts = [*("" for _ in range(before)), *(text.decode(errors="replace") for text in source.texts)]
     for at, line in enumerate(source.lines):
+        if line.code:
+            code.texts[before + at + 1] = line.instruction()
         key = keys.get(line.label or "", "")
         if not line.label or not key or key in code.labels:
             continue

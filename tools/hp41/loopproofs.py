@@ -3,15 +3,12 @@ from __future__ import annotations
 
 from typing import TYPE_CHECKING
 
-from .claimproofs import measure_of
-from .codes import Loop
+from .codes import Loop, measure_of
 from .statements import claim_text
-from .symbols import OUTSIDE, REGISTERS, Node, State, form_text, record, stack, start_of
+from .symbols import OUTSIDE, REGISTERS, Form, Node, State, equals_text, form_text, record, signed_parts, stack, start_of, state_of
 
 if TYPE_CHECKING:
     from .theorems import Proof
-
-COMPONENTS = ("a", "b", "c", "m", "n", "g", "t", "p", "q", "status", "carry", "selected", "ram")
 
 
 class LoopProof:
@@ -52,7 +49,7 @@ class LoopProof:
     def invariant(self, loop: Loop, depth: int) -> None:
         """Adds what is true at the label of a loop."""
         put, root = self.proof.put, loop.roots[0]
-        self.proof.line, self.proof.claim = loop.contract.line, ""
+        self.proof.about(loop.contract.line)
         parts = {**root.state.terms, **{name: start_of(name, "t") for name in sorted(loop.names)}}
         outside = {name: parts.pop(name) for name in OUTSIDE if name in parts}
         returns = [f"return_{at}" if at in loop.lost else one for at, one in enumerate(root.state.returns)]
@@ -64,10 +61,13 @@ class LoopProof:
         put(depth + 1, f"is : t ≡ {record('s', {'processor': record('s.processor', parts), **outside})}")
         if "ram" in loop.names:
             put(depth + 1, f"memory : HasMemory {REGISTERS} t.ram")
-        here = State(0, (), {name: start_of(name, "t") for name in COMPONENTS})
-        put(depth + 1, f"counted : left ≡ {form_text(measure_of(loop, here))}")
+        put(depth + 1, f"counted : {equals_text('left', self.measure(loop, state_of('t')))}")
         for at, claim in enumerate(loop.contract.invariant, 1):
             put(depth + 1, f"invariant_{at} : {claim_text(claim, 't')}")
+
+    def measure(self, loop: Loop, state: State) -> Form:
+        """Returns the number that each round of a loop makes smaller, in a state."""
+        return measure_of(loop, state, self.result.root.state)
 
     def afterwards(self, loop: Loop, depth: int) -> None:
         """Adds what is true after a loop that another one may follow."""
@@ -81,7 +81,8 @@ class LoopProof:
     def rounds(self, loop: Loop, depth: int) -> None:
         """Adds the rounds of a loop."""
         proof, label, root = self.proof, loop.label, loop.roots[0]
-        proof.line, proof.claim, proof.loop = loop.contract.line, "", loop
+        proof.about(loop.contract.line)
+        proof.loop = loop
         if self.is_exact:
             proof.after = f"(At_{label} {root.variables[0][0]})"
             proof.node(root, depth)
@@ -128,37 +129,48 @@ class LoopProof:
                                                          ("left t", "t")))
         return f"(counts_down At_{label} {after} {loop.steps} {loop.last_steps} (λ left t at. {more}) (λ t at. {last}) left t at)"
 
-    def at_label(self, loop: Loop, node: Node, depth: int, counted: str) -> None:
-        """Adds the proof that the invariant is true in a state at the label."""
-        put = self.proof.put
+    def at_label(self, loop: Loop, node: Node, depth: int, counted: str, why: str = "") -> None:
+        """Adds the proof that the invariant is true in a state at the label. `why` says why the count may be another one."""
+        put, about, because = self.proof.put, self.proof.about, self.proof.because
         memory = [f"memory = {self.result.knowledge.rams[node.state.of('ram')].has};"] if "ram" in loop.names else []
         returns = [f"return_{place} = {node.state.returns[place]};" for place in sorted(loop.lost)]
-        for text in (f"whole = {node.whole};", *returns, "is = refl;", *memory, f"counted = {counted};"):
+        for text in (f"whole = {node.whole};", *returns, "is = refl;", *memory):
             put(depth, text)
+        about(*self.counted(loop), why or because.negative(loop, node))
+        put(depth, f"counted = {counted};")
         for at, (claim, proof) in enumerate(zip(loop.contract.invariant, node.proofs), 1):
-            self.proof.line, self.proof.claim = claim.line, claim.text
+            about(claim.line, claim.text, because.at_loop(loop, node))
             put(depth, f"invariant_{at} = {proof};")
-        self.proof.line, self.proof.claim = node.line, ""
+        about(node.line)
+
+    @staticmethod
+    def counted(loop: Loop) -> tuple[int, str]:
+        """Returns the source line and the text of the number that each round makes smaller."""
+        measure = loop.contract.measure
+        return (measure.line, measure.text) if measure else (loop.contract.line, "decreases")
+
+    def is_natural(self, loop: Loop, node: Node) -> str:
+        """Returns the proof that the number that each round makes smaller is what it is said to be, which is not negative."""
+        return node.proofs[-2] if signed_parts(self.measure(loop, node.state))[1] else "refl"
 
     def again(self, node: Node, depth: int, loop: Loop) -> None:
         """Adds the end of a round after which there is another one."""
-        proof = self.proof
+        proof, because = self.proof, self.proof.because
         proof.head(node, depth)
-        proof.line, proof.claim = loop.contract.line, "decreases"
         if self.is_exact:
             proof.put(depth, f"{node.go} = takes_none _ {proof.after} (record {{")
-            self.at_label(loop, node, depth + 2, node.proofs[-1])
+            self.at_label(loop, node, depth + 2, node.proofs[-1], because.falls_by_one(loop, node))
             proof.put(depth, "})")
             return
-        measure = form_text(measure_of(loop, node.state))
-        proof.put(depth, f"{node.go} = at_end _ {proof.after} (inr ({measure}, {node.proofs[-1]}, record {{")
-        self.at_label(loop, node, depth + 2, "refl")
+        proof.about(*self.counted(loop), because.falls(loop, node))
+        proof.put(depth, f"{node.go} = at_end _ {proof.after} (inr ({form_text(self.measure(loop, node.state))}, {node.proofs[-1]}, record {{")
+        self.at_label(loop, node, depth + 2, self.is_natural(loop, node))
         proof.put(depth, "}))")
 
     def enter(self, node: Node, depth: int, loop: Loop) -> None:
         """Adds the way into a loop: from the beginning of the function, or from the rounds of another loop."""
         proof, claimed = self.proof, self.result.contract.steps
-        measure = form_text(measure_of(loop, node.state))
+        measure = form_text(self.measure(loop, node.state))
         proof.head(node, depth)
         if proof.loop:
             begin, end = ("", "") if self.is_exact else ("(inl (inr ", "))")
@@ -166,8 +178,8 @@ class LoopProof:
             proof.put(depth, f"{node.go} = {word} _ {proof.after} {begin}({measure}, record {{")
         else:
             proof.put(depth, f"{node.go} = loop_{loop.label} ({measure}) {node.state.text()} {proof.count(node)} (record {{")
-        self.at_label(loop, node, depth + 2, "refl")
+        self.at_label(loop, node, depth + 2, self.is_natural(loop, node))
         if claimed:
-            proof.line, proof.claim = claimed.line, claimed.text
+            proof.about(claimed.line, claimed.text, proof.because.suffices(loop, node))
         proof.put(depth, f"}}, {node.proofs[-1]}){end}" if proof.loop else f"}}) ({node.proofs[-1]})")
-        proof.line, proof.claim = node.line, ""
+        proof.about(node.line)

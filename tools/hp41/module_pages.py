@@ -7,7 +7,7 @@ from .functions import Functions, functions_of
 from .inputs import RAW, SOURCE, File, Input
 from .listings import Listing
 from .modules import LABEL, MOST_FUNCTIONS, ROOM, Module, ProgramLine, lines_of_program, lines_of_texts, programs_of
-from .placing import counted
+from .counts import counted
 from .programs import broken
 from .sources import Source, Whole
 

@@ -9,6 +9,7 @@ import sys
 from typing import TYPE_CHECKING, Callable, NamedTuple, Optional, Sequence
 
 from .commandlines import Parser
+from .counts import counted
 from .decks import Failure, escape_output
 from .misplaced import wrong_page
 from .sources import PAGES, Assembled, Faulty
@@ -82,11 +83,6 @@ def group_of(before: list[Option], parser: argparse.ArgumentParser) -> Optional[
             bank = int(value[0])
         writable |= name == "--rw"
     return Group(page, bank, writable) if is_placed else None
-
-
-def counted(count: int, one: str, more: str) -> str:
-    """Returns a text for a count, which replaces {}."""
-    return (one if count == 1 else more).format(count)
 
 
 class Places:

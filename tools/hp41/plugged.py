@@ -37,6 +37,11 @@ class Names:
         others = {page for page, bank in self.known if ((page, bank) in self.written) != can_be_written}
         return sorted({page for page, _ in self.known} - others)
 
+    def told(self) -> list[list[str]]:
+        """Returns the plugged pages, each with the name of its first bank that has one; an empty text if none has one."""
+        pages = sorted({page for page, _ in self.known})
+        return [[page, next((name for place, name in sorted(self.known.items()) if place[0] == page and name), "")] for page in pages]
+
     def of(self, page: str, bank: str) -> str:
         """Returns the name of a bank; an empty text if it has none."""
         return self.known.get((page, bank), "")

@@ -5,9 +5,9 @@ import os
 import re
 import shutil
 import subprocess
-from typing import Mapping, NamedTuple, Protocol
+from typing import Mapping, NamedTuple, Protocol, Sequence
 
-from . import TOP
+from . import TOP, progress
 from .crates import NAME
 from .decks import NO_ANSWER, Failure
 from .statements import CRATE
@@ -18,11 +18,15 @@ USED = ("h41_digits", "h41_lines", "h41_fields", "h41_arith", "h41_words", "h41_
         "h41_nut", "h41_laws_words", "h41_reasoning")
 # The same for theorems about programs, with the crates that these use.
 USED_BY_PROGRAMS = ("h41_digits", "h41_lines", "h41_fields", "h41_arith", "h41_words", "h41_dis", "h41_asm", "h41_ends", "h41_codes",
-                    "h41_text", "h41_keys", "h41_decimal", "h41_ram", "h41_show", "h41_pages", "h41_nut", "h41_program", "h41_labels",
-                    "h41_positions", "h41_numbers", "h41_plain_numbers", "h41_rows", "h41_focal", "h41_laws_words", "h41_reasoning_lines")
+                    "h41_text", "h41_keys", "h41_decimal", "h41_ram", "h41_show", "h41_pages", "h41_nut", "h41_program", "h41_walk",
+                    "h41_labels", "h41_positions", "h41_numbers", "h41_plain_numbers", "h41_rows", "h41_focal", "h41_laws_words",
+                    "h41_reasoning_lines")
 ERROR = re.compile(r"\./(proofs/\S+|specs/\S+):(\d+):\d+: error: (.*)")
 OF_FUNCTION = re.compile(rf"fn {CRATE}::functions::of_(\w+): (.*)")
 PROVED = "logic=proved "
+
+# What the prover says while it runs.
+CHECKED = re.compile(rf"checked {CRATE}::functions::of_(\w+), (\d+) of (\d+)")
 
 # What the prover says of a proof that rests on another one that is not proved.
 FOLLOWS = re.compile(r"declarations? that depends? on .* not checked")
@@ -85,14 +89,26 @@ def command(folder: str, used: tuple[str, ...]) -> list[str]:
     return [*words, "--antt-project", f"{top}/rattle/logic/antt-project.json", "--logic-built", f"{top}/logic_built"]
 
 
-def prove(crate: str, libraries: str, proofs: Mapping[str, Proof], used: tuple[str, ...] = USED) -> Verdict:
-    """Returns what the prover says of a crate in a folder."""
-    ran = subprocess.run(command(libraries, used), cwd=crate, stdin=subprocess.DEVNULL, stdout=subprocess.PIPE, stderr=subprocess.STDOUT,
-                         check=False)
-    return verdict_of(ran.stdout.decode(errors="replace"), proofs)
+def prove(crate: str, libraries: str, proofs: Mapping[str, Proof], used: tuple[str, ...] = USED,
+          reasons: Mapping[str, Sequence[str]] | None = None) -> Verdict:
+    """Returns what the prover says of a crate in a folder. `reasons` has for each line of a proof why it may fail. While the prover runs,
+    the theorems that it has checked are shown."""
+    progress.show(f"proving {progress.counted(len(proofs), 'theorem')}")
+    names = {path.removeprefix("proofs/Of_").removesuffix(".antt").lower(): path.removeprefix("proofs/Of_").removesuffix(".antt")
+             for path in proofs}
+    lines: list[str] = []
+    with subprocess.Popen([*command(libraries, used), *(["--progress"] if progress.is_shown else [])], cwd=crate, stdin=subprocess.DEVNULL,
+                          stdout=subprocess.PIPE, stderr=subprocess.STDOUT) as ran:
+        assert ran.stdout
+        for line in ran.stdout:
+            lines.append(line.decode(errors="replace"))
+            found = CHECKED.match(lines[-1])
+            if found:
+                progress.show(f"checked the proof of {names.get(found[1], found[1])}, {found[2]} of {found[3]}")
+    return verdict_of("".join(lines), proofs, reasons)
 
 
-def verdict_of(text: str, proofs: Mapping[str, Proof]) -> Verdict:
+def verdict_of(text: str, proofs: Mapping[str, Proof], reasons: Mapping[str, Sequence[str]] | None = None) -> Verdict:
     """Returns the verdict in the output of the prover."""
     lines = text.splitlines()
     is_judged = any(line.startswith("logic=") for line in lines)
@@ -105,19 +121,20 @@ def verdict_of(text: str, proofs: Mapping[str, Proof]) -> Verdict:
         if found and FOLLOWS.search(found[3]):
             continue
         if found and found[1] in proofs and int(found[2]) <= len(proofs[found[1]].rows):
-            _, source, claim = proofs[found[1]].rows[int(found[2]) - 1]
-            faults.append((source, claim, reason_of(found[3])))
+            at = int(found[2]) - 1
+            _, source, claim = proofs[found[1]].rows[at]
+            faults.append((source, claim, reason_of(found[3], (reasons or {}).get(found[1], [""] * (at + 1))[at])))
         elif found:
             faults.append((0, "", f"{found[1]}:{found[2]}: {found[3]}"))
     proved = {found[1] for found in map(OF_FUNCTION.match, lines) if found and found[2] == "proved"}
     if not faults and not any(line.startswith(PROVED) for line in lines):
         faults.append((0, "", next((line for line in lines if "error" in line), next((line for line in lines if "not proved" in line),
                                                                                      "logic=not-proved"))))
-    return Verdict(proved, list(dict.fromkeys(faults)), text)
+    return Verdict(proved, sorted(dict.fromkeys(faults), key=lambda fault: fault[0]), text)
 
 
-def reason_of(message: str) -> str:
-    """Returns the reason in a message of the prover, in words for a writer of modules."""
+def reason_of(message: str, why: str = "") -> str:
+    """Returns the reason in a message of the prover, in words for a writer of modules. `why` says why the line may fail."""
     if NO_DECISION.search(message):
-        return "it does not follow from what is known at the end of the function"
+        return why or "it does not follow from what is known at the end of the function"
     return f"the prover says: {message}"

@@ -7,7 +7,7 @@ from typing import TYPE_CHECKING, Iterator, Optional
 
 from .benches import Bench
 from .history import History, Place, State, Told, difference
-from .parts import NO_END, Part, parts_of
+from .parts import MOST_STEPS, NO_END, Part, parts_of
 
 if TYPE_CHECKING:
     from .desk import Desk
@@ -16,6 +16,8 @@ if TYPE_CHECKING:
 MOST_BYTES = 30_000
 # How many steps are made in a piece of a run.
 MOST_PIECE = 200_000
+# A session with more steps is not executed again for a search.
+MOST_AGAIN = MOST_STEPS // 10
 # How many states before and after a state are read with it.
 AROUND = 40
 
@@ -99,7 +101,7 @@ class Repeat:
             place = self.source.history.place(number)
             yield from self.reach(place)
             lights, self.desk.history = self.desk.lights, History()
-            lights.shift, lights.program = place.shift, place.program
+            lights.shift, lights.program, lights.is_on = place.shift, place.program, place.is_on
             self.found.append({**self.desk.look(), "made": place.made})
             yield
 
@@ -130,6 +132,40 @@ class Repeat:
     def close(self) -> None:
         """Ends its bench."""
         self.desk.bench.close()
+
+
+class Search:
+    """A search for something in a state of a session, which no view of the bench prints. It changes a bench beside the session, which has
+    executed the session again up to this state."""
+
+    def __init__(self, source: Desk, number: int) -> None:
+        """`source` is the desk of the session, and `number` that of the state. Nothing is found in a session of more than MOST_AGAIN
+        steps."""
+        self.key = source.number, number
+        self.repeat: Optional[Repeat] = None
+        self.work: Iterator[None] = iter(())
+        if source.made <= MOST_AGAIN:
+            self.repeat = Repeat(source, source.another())
+            self.work = self.repeat.reach(source.history.place(number))
+
+    def go(self, seconds: float) -> bool:
+        """Goes on for about `seconds`. Returns whether the search is at its end."""
+        if not is_over(self.work, time.monotonic() + seconds):
+            return False
+        if self.repeat:
+            self.find(self.repeat.desk)
+            self.close()
+        return True
+
+    def find(self, desk: Desk) -> None:
+        """Finds what is searched, on the desk beside that of the session."""
+        raise NotImplementedError
+
+    def close(self) -> None:
+        """Ends its bench."""
+        if self.repeat:
+            self.repeat.close()
+        self.repeat = None
 
 
 class Renewal:

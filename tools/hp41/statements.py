@@ -111,9 +111,9 @@ UNFOLDING = "unfolding words.number_of first_place last_place places register_pl
 RETURNS = ("r0", "r1", "r2", "r3")
 
 
-def atom_text(atom: Atom, now: str) -> str:
-    """Returns an atom as a term; `now` is the state after the function."""
-    state, name = "s" if atom.old else now, atom.name.lower()
+def atom_text(atom: Atom, now: str, before: str = "s") -> str:
+    """Returns an atom as a term; `now` is the state after the function, and `before` the one before it."""
+    state, name = before if atom.old else now, atom.name.lower()
     if atom.lo is not None:
         register = f"{state}.processor.{name}" if atom.address is None else f"({register_at(f'{state}.ram', atom.address)})"
         return f"number_of {atom.base} {register} {atom.lo} {atom.hi}"
@@ -124,13 +124,13 @@ def atom_text(atom: Atom, now: str) -> str:
     return special.get(atom.name, f"{state}.processor.{name}")
 
 
-def sum_text(one: Sum, now: str) -> str:
+def sum_text(one: Sum, now: str, before: str = "s") -> str:
     """Returns a sum without negative terms as a term."""
-    parts = [atom_text(atom, now) if many == 1 else f"{many} * {atom_text(atom, now)}" for many, atom in one.parts]
+    parts = [f"{'' if many == 1 else f'{many} * '}{atom_text(atom, now, before)}" for many, atom in one.parts]
     return " + ".join([*parts, *([str(one.constant)] if one.constant or not parts else [])])
 
 
-def claim_text(claim: AnyClaim, now: str) -> str:
+def claim_text(claim: AnyClaim, now: str, before: str = "s") -> str:
     """Returns a claim as a type."""
     if isinstance(claim, Named) and claim.name == "BANK":
         return f"chosen_at {now}.pages {claim.page} ≡ {NUMBERS[int(claim.value) - 1]}"
@@ -138,7 +138,7 @@ def claim_text(claim: AnyClaim, now: str) -> str:
         name, value = value_of(claim) or ("", "")
         return f"{now}.processor.{name} ≡ {value}"
     if isinstance(claim, Decimal):
-        return f"IsDecimal {atom_text(claim.atom, now).removeprefix(f'number_of {claim.atom.base} ')}"
+        return f"IsDecimal {atom_text(claim.atom, now, before).removeprefix(f'number_of {claim.atom.base} ')}"
     if isinstance(claim, Others):
         apart = "".join(f"address ≢ {one:#05x} → " for one in claim.addresses)
         return f"(address : ℕ) → {apart}register_at {now}.ram address ≡ register_at s.ram address"
@@ -146,7 +146,7 @@ def claim_text(claim: AnyClaim, now: str) -> str:
     relation = claim.relation
     if relation in (">", ">="):
         left, right, relation = right, left, {">": "<", ">=": "<="}[relation]
-    return f"{sum_text(left, now)} {RELATIONS[relation]} {sum_text(right, now)}"
+    return f"{sum_text(left, now, before)} {RELATIONS[relation]} {sum_text(right, now, before)}"
 
 
 def done_name(label: str) -> str:

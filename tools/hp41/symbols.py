@@ -14,6 +14,9 @@ START = "s.processor"
 # The components of a state outside the processor that words can change: the registers of memory, and the pages.
 OUTSIDE = ("ram", "pages")
 
+# The components of a state that claims can name.
+COMPONENTS = ("a", "b", "c", "m", "n", "g", "t", "p", "q", "status", "carry", "selected", "ram")
+
 # In the place of this text the number of registers of main memory is written that a source needs.
 REGISTERS = "REGISTERS_NEEDED"
 
@@ -80,6 +83,11 @@ class State:
         return {name: self.terms[name] for name in OUTSIDE if name in self.terms}
 
 
+def state_of(variable: str) -> State:
+    """Returns a state that is a variable."""
+    return State(0, (), {name: start_of(name, variable) for name in COMPONENTS})
+
+
 def record(of: str, parts: dict[str, str]) -> str:
     """Returns a record in which some parts are replaced, as a term."""
     return f"record {of} {{ {'; '.join(f'{name} = {term}' for name, term in parts.items())} }}"
@@ -115,7 +123,8 @@ class Way:
     are any."""
     facts: list[Fact]
     lemma: str
-    node: Node | None
+    is_taken: bool
+    node: Node | None = None
     end: Node | None = None
     refuted: list[Fact] | None = None
 
@@ -169,8 +178,8 @@ class Node:
     facts, and the tests that were passed on the way. `form` says how the run continues, and `nexts` are the nodes after it. `steps` are
     the most steps from there to the end, `cost` those to the next node, `spent` those to the next node if they are those of a call, and
     `budget` is the number of steps that are left if it depends on the state at the start. `test` is the test whose result is the carry,
-    and `selects` the number that selects an address of memory, with its value. `end` is the state after the return of the function, and
-    `proofs` are the proofs of the claims there."""
+    and `selects` the number that selects an address of memory, with its value. `end` is the state after the return of the function,
+    `proofs` are the proofs of the claims there, and `doubts` the requirements of a function that is called that may not follow."""
     number: int
     line: int
     state: State
@@ -188,6 +197,7 @@ class Node:
     test: tuple[str, str, str, int, int] | None = None
     selects: tuple[Span, int] | None = None
     proofs: list[str] = field(default_factory=list)
+    doubts: list[str] = field(default_factory=list)
     budget: Form = field(default_factory=dict)
     spent: Form = field(default_factory=dict)
 
@@ -207,11 +217,27 @@ def number(key: Key) -> str:
     return key if isinstance(key, str) else f"number_of {key.base} {argument(key.name)} {key.lo} {key.hi}"
 
 
+def signed_parts(form: Form) -> tuple[Form, Form]:
+    """Returns the terms of a sum that are added, and those that are subtracted, with positive factors."""
+    added = {key: many for key, many in form.items() if many >= 0}
+    return added, {key: -many for key, many in form.items() if many < 0}
+
+
 def form_text(form: Form) -> str:
-    """Returns a sum as a term."""
+    """Returns a sum as a term. A difference is one of the prover, which is zero if it would be negative."""
+    added, less = signed_parts(form)
+    if less:
+        return f"({form_text(added)}) - ({form_text(less)})"
     parts = [number(key) if many == 1 else f"{many} * {number(key)}" for key, many in form.items() if key is not None]
     constant = form.get(None, 0)
     return " + ".join([*parts, *([str(constant)] if constant or not parts else [])])
+
+
+def equals_text(left: str, form: Form) -> str:
+    """Returns the statement that a number is equal to a sum, which is then not negative. The terms that are subtracted are on the left
+    side."""
+    added, less = signed_parts(form)
+    return f"{left} + {form_text(less)} ≡ {form_text(added)}" if less else f"{left} ≡ {form_text(form)}"
 
 
 def argument(term: str) -> str:

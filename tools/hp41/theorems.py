@@ -8,18 +8,21 @@ from .banksteps import left_by
 from .claimproofs import omega
 from .codes import Code, Loop, Result, known_at_start
 from .loopproofs import LoopProof
+from .reasons import Reasons
 from .statements import CRATE, IMPORTS, PROJECT_IMPORTS, RETURNS, UNFOLDING, done_name, laws_of, pages_of, requirements, sum_text
 from .symbols import REGISTERS, Fact, Form, Node, State, Way, argument, form_text, keys_in, stack
 
 
 class Proof:
-    """The proof of one function. `rows` has its lines, each with the source line and the claim that it is about. `loop` is the loop
-    whose rounds are being written, and `after` what is true after the run that is being written."""
+    """The proof of one function. `rows` has its lines, each with the source line and the claim that it is about, and `reasons` why each of
+    them may fail. `loop` is the loop whose rounds are being written, and `after` what is true after the run that is being written."""
 
     def __init__(self, code: Code, result: Result) -> None:
         """Begins without lines."""
         self.code, self.result = code, result
         self.rows: list[tuple[str, int, str]] = []
+        self.reasons: list[str] = []
+        self.why, self.because = "", Reasons(code, result)
         self.words = ("Takes", "takes_step", "takes_none") if result.is_exact else ("Reaches", "by_step", "at_end")
         self.line, self.claim, self.after = result.contract.line, "", "After"
         self.loop: Loop | None = None
@@ -28,6 +31,11 @@ class Proof:
     def put(self, depth: int, text: str) -> None:
         """Adds a line."""
         self.rows.append((f"{'  ' * depth}{text}", self.line, self.claim))
+        self.reasons.append(self.why)
+
+    def about(self, line: int, claim: str = "", why: str = "") -> None:
+        """Notes the source line and the claim that the next lines are about, and why they may fail."""
+        self.line, self.claim, self.why = line, claim, why
 
     def text(self) -> str:
         """Returns the proof as the text of a file."""
@@ -73,7 +81,7 @@ class Proof:
 
     def node(self, node: Node, depth: int) -> None:
         """Adds the module of a node: what is known there, the nodes after it, and the run from it."""
-        self.line, self.claim = node.line, ""
+        self.about(node.line)
         binders = [f"({name} : {kind})" for name, kind in node.variables]
         self.put(depth, f"module _ {' '.join([*binders, f'({node.whole} : IsWhole {node.state.text()})'])} where")
         for name, kind, term in node.abbreviations:
@@ -89,7 +97,7 @@ class Proof:
                 self.put(depth + 1, f"{name} = {term}")
         if node is self.result.root and self.result.loops:
             self.loops.write(depth + 1)
-            self.line, self.claim = node.line, ""
+            self.about(node.line)
         getattr(self, f"write_{node.form[0]}")(node, depth + 1, *node.form[1:])
 
     def memory(self, name: str) -> tuple[str, str, str]:
@@ -116,7 +124,7 @@ class Proof:
 
     def head(self, node: Node, depth: int, name: str = "") -> None:
         """Adds the type of the run from a node."""
-        self.line = node.line
+        self.about(node.line)
         self.put(depth, f"{name or node.go} : {self.words[0]} {self.count(node)} {node.state.text()} {self.after}")
         self.put(depth, UNFOLDING)
 
@@ -172,9 +180,9 @@ class Proof:
         if "ram" in self.result.changed:
             self.put(depth + 3, f"memory = {self.result.knowledge.rams[last.state.of('ram')].has};")
         for at, (claim, proof) in enumerate(zip(self.result.contract.ensures, last.proofs), 1):
-            self.line, self.claim = claim.line, claim.text
+            self.about(claim.line, claim.text, self.because.at_end(node))
             self.put(depth + 3, f"claim_{at} = {proof};")
-        self.line, self.claim = node.line, ""
+        self.about(node.line)
         self.put(depth + 2, f"}}{')' * inner})))")
 
     def write_again(self, node: Node, depth: int, loop: Loop) -> None:
@@ -189,28 +197,34 @@ class Proof:
         """Adds a jump that is taken on one way and not on the other."""
         names = {}
         for value, way in zip((True, False), forms):
-            proof, after = f"is_{node.number}_{int(value)}", way.node
+            proof = f"is_{node.number}_{int(value)}"
+            self.because.ways.append((node.line, way.is_taken))
             self.put(depth, f"module _ ({proof} : {carry} ≡ {'true' if value else 'false'}) where")
             self.facts(way.facts, depth + 1)
             names[value] = f"way_{node.number}_{int(value)}"
-            if way.refuted is not None:
-                self.head(node, depth + 1, names[value])
-                self.put(depth + 1, f"{names[value]} = absurd ({omega(way.refuted)})")
-                continue
-            if after is None:
-                self.write_end(node, depth + 1, way.lemma, names[value], way.end)
-                continue
-            self.node(after, depth + 1)
-            self.head(node, depth + 1, names[value])
-            self.put(depth + 1, f"{names[value]} =")
-            self.put(depth + 3, f"let step : StepsTo {node.state.text()} {after.state.text()} = {way.lemma} in")
-            self.put(depth + 3, self.stepped(node, after, "step", f"{after.go} step.whole"))
+            self.write_way(node, way, depth + 1, names[value])
+            self.because.ways.pop()
         self.head(node, depth)
         proofs = [f"{'inl' if value else 'inr'} is ↦ {names[value]} is" for value in (True, False)]
         self.put(depth, f"{node.go} = elim (either {argument(carry)}) [")
         for proof in proofs:
             self.put(depth + 2, f"| {proof}")
         self.put(depth, "]")
+
+    def write_way(self, node: Node, way: Way, depth: int, name: str) -> None:
+        """Adds what follows a jump that is taken, or not taken."""
+        after = way.node
+        if way.refuted is not None:
+            self.head(node, depth, name)
+            self.put(depth, f"{name} = absurd ({omega(way.refuted)})")
+        elif after is None:
+            self.write_end(node, depth, way.lemma, name, way.end)
+        else:
+            self.node(after, depth)
+            self.head(node, depth, name)
+            self.put(depth, f"{name} =")
+            self.put(depth + 2, f"let step : StepsTo {node.state.text()} {after.state.text()} = {way.lemma} in")
+            self.put(depth + 2, self.stepped(node, after, "step", f"{after.go} step.whole"))
 
     def write_call(self, node: Node, depth: int, callee: Result, lemma: str, inner: State, *more: Any) -> None:
         """Adds the call of a function that has a theorem."""
@@ -221,6 +235,7 @@ class Proof:
         is_exact, stacks = self.result.is_exact, " ".join(inner.returns)
         between = f"({done_name(callee.label)} {inner.text()} {stacks})"
         theorem, count = self.applied(node, callee, inner, steps, between)
+        self.about(node.line, "", self.because.at_call(node))
         self.put(depth, f"{node.go} =")
         self.put(depth + 2, f"let step : StepsTo {node.state.text()} {inner.text()} = {lemma} in")
         join = "takes_in_turn" if is_exact else "in_turn"
@@ -229,6 +244,7 @@ class Proof:
                 f"(λ {t} {done}. subst (λ v. {self.words[0]} {self.count(after)} v {self.after}) (sym {left_by(done, after, pages)}) "
                 f"({after.go} {t} {done} (subst IsWhole {left_by(done, after, pages)} {done}.whole)))")
         self.put(depth + 2, self.with_steps(node, f"({total} + {self.count(after)})", went, node.proofs[-1]))
+        self.about(node.line)
 
     def applied(self, node: Node, callee: Result, inner: State, steps: Form, between: str) -> tuple[str, str]:
         """Returns the run of a function that is called by its theorem, and the number of steps that are counted for it."""

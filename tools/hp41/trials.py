@@ -4,16 +4,19 @@ from __future__ import annotations
 import random
 import re
 import subprocess
-from typing import Iterable, Iterator, NamedTuple
+from typing import Iterable, Iterator, NamedTuple, Sequence
 
 from .claims import MEMORY, STACK, WIDE, AnyClaim, Atom, Claim, Contract, Decimal, Named, Others, Steps, Sum
 from .decks import BENCH, NO_ANSWER, Failure, ended
 from .codes import Code, known_at_start
+from .constants import Field, constants_of, fields_of, registers_of
 from .plugging import Plugged, active_bank
 from .stubs import stub_of
 
-# How many states are tried, how many are drawn for each that meets the requirements, and the steps after which a call is ended.
+# How many states are tried, how many are drawn for each that meets the requirements, and the steps after which a call is ended. In the
+# first states, one field has a chosen number; so many are drawn for each of these.
 TRIALS, DRAWS, LIMIT = 150, 200, 100_000
+CHOSEN, CHOSEN_DRAWS = 90, 20
 SHOWN = ("A", "B", "C", "M", "N", "G", "T", "ST", "P", "Q", "PT", "CY", "MODE", "RAM")
 LAST, BESIDE = 13, 16
 
@@ -25,11 +28,18 @@ BASES = {"Hexadecimal": "HEX", "Decimal": "DEC"}
 
 
 class Trial(NamedTuple):
-    """A call: the registers before and after it, its steps, and how it ended, as `run` prints it."""
+    """A call: the registers before and after it, its steps, how it ended, as `run` prints it, and the registers that its instructions
+    use."""
     before: dict[str, str]
     after: dict[str, str]
     steps: int
     reason: str
+    used: frozenset[str] = frozenset()
+
+    def begin(self, names: Iterable[str]) -> str:
+        """Returns the registers before the call as text: those of some names, and those that the instructions use."""
+        wanted = {*names, *self.used}
+        return told(self.before, [name for name in SHOWN if name in wanted] + sorted(name for name in wanted if name[0].isdigit()))
 
 
 class Counterexample(NamedTuple):
@@ -83,10 +93,12 @@ def changed_registers(claim: Others, before: dict[str, str], after: dict[str, st
 
 
 class States:
-    """States that meet the requirements of a contract, first those at the bounds of its numbers."""
+    """States that meet the requirements of a contract, first those in which a field has a number of the claims or the instructions, or the
+    one below or above it."""
 
-    def __init__(self, contract: Contract, seed: int = 41) -> None:
-        """Reads the registers and the bounds of numbers in a contract. The seed decides the random states."""
+    def __init__(self, contract: Contract, constants: Sequence[int] = (), fields: Sequence[Field] = (), seed: int = 41) -> None:
+        """Reads the registers and the numbers in a contract. `constants` and `fields` are the numbers and the fields in the instructions of
+        the function. The seed decides the random states."""
         self.contract, self.random, self.selecting = contract, random.Random(seed), random.Random(seed)
         known = known_at_start(contract)
         self.fixed = {"MODE": BASES[known["base"]]}
@@ -100,8 +112,10 @@ class States:
         self.spans = sorted({(register_of(one), one.lo or 0, one.hi or 0) for one in spans})
         others = FILLED if any(isinstance(claim, Others) for claim in everything) else ()
         self.memory = sorted({name for name, _, _ in self.spans if name[0].isdigit()} | set(others))
-        numbers = {claim.left.constant for claim in claims} | {claim.right.constant for claim in claims}
-        self.bounds = sorted({max(0, number + more) for number in numbers for more in (-1, 0, 1)})
+        self.fields = [one for one in fields if one not in self.spans]
+        is_decimal = any(one.base == 10 for claim in everything for one in claim.atoms())
+        self.bounds = bounds_of([*numbers_in(claims), *constants], is_decimal)
+        self.chosen = self.choices(list(dict.fromkeys([*bounds_of(constants, is_decimal), *self.bounds])))
 
     def number(self, width: int) -> int:
         """Returns a number of some digits, often one at a bound."""
@@ -109,13 +123,22 @@ class States:
         few = [*(number for number in self.bounds if number <= most), 0, 1, most, most - 1, 1 << 4 * (width - 1), int("9" * width, 16)]
         return self.random.choice(few) if self.random.random() < 0.6 else self.random.randint(0, most)
 
-    def draw(self) -> dict[str, str]:
-        """Returns a state that may not meet the requirements."""
+    def choices(self, numbers: Sequence[int]) -> list[tuple[Field, int]]:
+        """Returns fields with a number of some that fits, at most so many as are tried."""
+        found = [(field, number) for number in numbers for field in [*self.spans, *self.fields] if number < 16 ** (field[2] + 1 - field[1])]
+        return found[::max(1, -(-len(found) // CHOSEN))]
+
+    def draw(self, chosen: tuple[Field, int] | None = None) -> dict[str, str]:
+        """Returns a state that may not meet the requirements. `chosen` is a field with its number."""
         values = {name: self.number(14) if self.random.random() < 0.3 else self.random.getrandbits(56) for name in (*WIDE, *self.memory)}
-        for name, lo, hi in self.spans:
+        last = 0
+        for field in [*(one for one in self.fields if self.random.random() < 0.5), *self.spans, *([chosen[0]] if chosen else [])]:
+            name, lo, hi = field
             width = hi + 1 - lo
             mask = 16 ** width - 1 << 4 * lo
-            values[name] = values[name] & ~mask | self.number(width) << 4 * lo
+            number = last if last <= mask >> 4 * lo and self.random.random() < 0.1 else self.number(width)
+            last = chosen[1] if chosen and field == chosen[0] else number
+            values[name] = values[name] & ~mask | last << 4 * lo
         found = {name: f"{value:014X}" for name, value in values.items()}
         found.update(G=f"{self.number(2):02X}", ST=f"{self.random.getrandbits(14):04X}", P=f"{self.random.randrange(14):X}",
                      Q=f"{self.random.randrange(14):X}", PT=self.random.choice("PQ"), T=f"{self.number(2):02X}", CY="0",
@@ -145,14 +168,33 @@ class States:
 
     def all(self) -> Iterator[dict[str, str]]:
         """Yields states that meet the requirements."""
+        chosen = list(self.chosen)
         for _ in range(TRIALS):
-            for _ in range(DRAWS):
-                state = self.draw()
-                if all(is_true(claim, state, state) for claim in self.contract.requires):
-                    yield state
-                    break
-            else:
+            found = self.meeting(chosen.pop(0), CHOSEN_DRAWS) if chosen else None
+            found = found or self.meeting(None, DRAWS)
+            if not found:
                 return
+            yield found
+
+    def meeting(self, chosen: tuple[Field, int] | None, draws: int) -> dict[str, str] | None:
+        """Returns a state that meets the requirements; None if none of those that are drawn does."""
+        states = (self.draw(chosen) for _ in range(draws))
+        return next((state for state in states if all(is_true(claim, state, state) for claim in self.contract.requires)), None)
+
+
+def numbers_in(claims: Iterable[Claim]) -> set[int]:
+    """Returns the numbers in some claims, also those of the registers whose multiples are these numbers."""
+    found = set()
+    for claim in claims:
+        total = claim.left.plus(claim.right.times(-1))
+        found |= {claim.left.constant, claim.right.constant} | {abs(total.constant // many) for many, _ in total.parts}
+    return found
+
+
+def bounds_of(numbers: Iterable[int], is_decimal: bool) -> list[int]:
+    """Returns some numbers, those below and above them, and for decimal numbers those whose digits are theirs."""
+    found = {max(0, number + more) for number in numbers for more in (-1, 0, 1)}
+    return sorted(found | ({int(str(number), 16) for number in found} if is_decimal else set()))
 
 
 def run_all(code: Code, label: str, states: list[dict[str, str]]) -> list[Trial]:
@@ -256,7 +298,7 @@ def judged(contract: Contract, trial: Trial) -> Counterexample | None:
             names = named_in(contract, claim)
             if isinstance(claim, Others):
                 names = [*(name for name in names if not name[0].isdigit()), *changed_registers(claim, trial.before, trial.after)[:1]]
-            return Counterexample(claim.line, claim.text, f"from {told(trial.before, names)} it leaves {told(trial.after, names)}"
+            return Counterexample(claim.line, claim.text, f"from {trial.begin(names)} it leaves {told(trial.after, names)}"
                                                           f"{sides(claim, trial)}")
     if contract.steps:
         count = total(contract.steps.count, trial.before, trial.before)
@@ -264,7 +306,7 @@ def judged(contract: Contract, trial: Trial) -> Counterexample | None:
             names = named_in(contract, contract.steps)
             most = f"{'' if contract.steps.is_exact else 'at most '}{count}"
             return Counterexample(contract.steps.line, contract.steps.text,
-                                  f"from {told(trial.before, names)} it takes {trial.steps} "
+                                  f"from {trial.begin(names)} it takes {trial.steps} "
                                   f"step{'' if trial.steps == 1 else 's'}, expected {most}")
     return None
 
@@ -290,13 +332,14 @@ def counterexamples(code: Code, label: str) -> tuple[int, list[Counterexample]]:
     """Returns how many calls were tried, and a counterexample for each claim that is false in one of them, the simplest one first
     found."""
     contract = code.contracts[label]
-    states = list(States(contract).all())
+    states = list(States(contract, constants_of(code, label), fields_of(code, label)).all())
     if not states:
         return 0, []
     found: dict[tuple[int, str], Counterexample] = {}
     trials = run_all(code, label, states)
+    used = frozenset(registers_of(code, label))
     for trial in trials:
-        one = judged(contract, trial)
+        one = judged(contract, trial._replace(used=used))
         if one:
             found.setdefault((one.line, one.claim), one)
     return len(trials), sorted(found.values())

@@ -20,6 +20,8 @@ OTHERWISE = {"SIGMA+": "S+", "ENTER": "ENTER^"}
 # Functions that keys have in ALPHA mode, and functions that are typed as STO and a sign.
 WITH_ALPHA = {"ASTO": ["SHIFT", "STO"], "ARCL": ["SHIFT", "RCL"], "AVIEW": ["SHIFT", "R/S"], "CLA": ["SHIFT", "BACK"]}
 BEHIND_STO = {f"ST{sign}": ["STO", sign] for sign in "+-*/"}
+# Lines that a key types in program mode, and whose functions no key has outside of it.
+IN_PROGRAM_MODE = {"STOP": ["R/S"]}
 OF_ONE_DIGIT = ("FIX", "SCI", "ENG")
 NO_FUNCTIONS = {"ON", "USER", "PRGM", "ALPHA", "SHIFT", "SST", "BST", "EEX", "BACK", "R/S", "."}
 
@@ -28,6 +30,10 @@ LABELLED = re.compile(r'(XEQ|GTO|LBL) "(.*)"')
 LOCAL = re.compile(r"(XEQ|GTO|LBL) ([A-J])")
 
 NUMBER = re.compile(r"(-?)([0-9]*\.?[0-9]*)(?:E(-?)([0-9]{1,2}))?")
+# A number line that keys type: its mantissa may be a point alone, or its exponent may have no digit yet. Before E a digit is needed.
+NUMBER_LINE = re.compile(r"-?(?:(?=\.?[0-9])[0-9]*\.?[0-9]*(?:E-?[0-9]{0,2})?|\.)")
+# The line of a minus alone, and its keys.
+MINUS_ALONE, MINUS_KEYS = "NEG", ["1", "CHS", "BACK"]
 # A number as other programs and people write it: with a comma, a small e, or a plus.
 OTHER_NUMBER = re.compile(r"([+-]?)([0-9]*[.,]?[0-9]*)(?:[eE]([+-]?)([0-9]+))?")
 WORD = re.compile(r'"[^"]*"?|[^ \t"]+')
@@ -87,19 +93,24 @@ def why_no_name(name: str) -> str:
     return f"XEQ {name} on the keyboard calls the local label {name}" if re.fullmatch("[A-J]", name) else ""
 
 
-def number_keys(number: str) -> list[str]:
-    """Returns the keys of a number. CHS follows the first digits, or EEX."""
-    sign, mantissa, exponent_sign, exponent = whole(NUMBER, number).groups()
-    keys = list(mantissa) + ["CHS"] * (sign == "-")
-    if exponent is not None:
-        keys += ["EEX", *["CHS"] * (exponent_sign == "-"), *exponent]
-    return keys
-
-
 def is_number(word: str) -> bool:
     """Returns whether a word is a number that keys type: its mantissa has a digit."""
     found = NUMBER.fullmatch(word)
     return found is not None and re.search("[0-9]", found[2]) is not None
+
+
+def is_number_line(text: str) -> bool:
+    """Returns whether a line is a number that keys type character by character, if it is not too long."""
+    return text == MINUS_ALONE or NUMBER_LINE.fullmatch(text) is not None
+
+
+def number_line_keys(text: str) -> list[str]:
+    """Returns the keys of a number line. CHS follows the mantissa, or EEX."""
+    if text == MINUS_ALONE:
+        return MINUS_KEYS
+    mantissa, has_exponent, exponent = text.removeprefix("-").partition("E")
+    keys = [*mantissa, *["CHS"] * text.startswith("-")]
+    return [*keys, "EEX", *(["CHS"] * exponent.startswith("-")), *exponent.removeprefix("-")] if has_exponent else keys
 
 
 def is_other_number(word: str) -> bool:
@@ -143,7 +154,7 @@ def pieces_of(text: str) -> list[str]:
             letters_of(word[1:-1])
             pieces.append(Text(word[1:-1]))
         elif word not in KEYS and is_number(word):
-            pieces += number_keys(word)
+            pieces += number_line_keys(word)
         elif word not in KEYS and is_other_number(word):
             raise NoKeys(why_no_number(word))
         else:
@@ -188,8 +199,10 @@ def operand_keys(name: str, indirect: Optional[str], operand: str) -> list[str]:
 
 def line_keys(text: str) -> list[str]:
     """Returns the keys of a line."""
-    if is_number(text):
-        return number_keys(text)
+    if is_number_line(text):
+        return number_line_keys(text)
+    if text in IN_PROGRAM_MODE:
+        return IN_PROGRAM_MODE[text]
     if text.startswith('>"'):
         alpha, *letters = text_keys(text[2:-1])
         return [alpha, "SHIFT", "XEQ", *letters]

@@ -161,9 +161,9 @@ def tell_causes(faults: list[Fault]) -> None:
                 if row.refusal == one.refusal and (kind and row.kind(classes, others) == kind or row.first == one.first)
                 and one.may_be_as(row, kind)]
         if kind == "another dialect":
-            name = others[one.first]
-            fault.told.append(f"{one.first.decode()} is a name of another dialect, which tools/import reads as `{name}`"
-                              if as_own([fault.text])[0] else
+            name, own = others[one.first], as_own([fault.text])[0]
+            fault.told.append(f"{one.first.decode()} is a name of another dialect: write `{own}`, or convert the source with tools/import"
+                              if own else
                               f"{one.first.decode()} is `{name}` of another dialect, and its operand cannot be "
                               f"read: `{name}` takes {takes.get(name) or example(name, kind_of(name, operations())) or 'no operand'}")
         elif like and not may_be_of_others(kind):

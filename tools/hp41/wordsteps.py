@@ -4,11 +4,12 @@ from __future__ import annotations
 from typing import TYPE_CHECKING, Callable
 
 from .activebanks import in_pages
-from .banksteps import back_from, enabled
+from .banksteps import back_from, enabled, left_by
 from .budgets import most
 from .bytesteps import BYTES, after_byte
 from .claims import FIELDS
 from .codes import ADDRESSES, Instruction, NotProved, Result, claim_text, form_of, known_at_start, register_of
+from .linked import Known
 from .memorysteps import after_memory, is_memory
 from .symbols import WIDE, Fact, Form, Node, Span, State, Value, Way, argument, keys_in, literal, start_of, status_bit, with_status
 
@@ -127,7 +128,7 @@ class Step:
         is_sum = self.name in SUMS
         lemma, into, x, y, carry_in = (SUMS if is_sum else DIFFERENCES)[self.name]
         if not literal(self.state.of("base")):
-            raise self.unsupported("the mode is not known here: require it, as in `requires MODE = HEX`")
+            raise self.unsupported("the mode is not known here: put SETHEX or SETDEC before, or require it, as in `requires MODE = HEX`")
         lo, hi = self.places()
         count = len(self.run.nodes)
         z, carry, rule = f"{into}_{count}", f"carry_{count}", f"rule_{count}"
@@ -360,7 +361,7 @@ class Step:
         ways = []
         for is_taken, proof, facts in self.ways(condition):
             lemma, state = (taken if is_taken else passed)(proof)
-            way = Way(facts, lemma, None)
+            way = Way(facts, lemma, is_taken)
             known = [*self.node.passed, *facts]
             if state is not None:
                 way.node = self.go_on(state)
@@ -454,7 +455,7 @@ class Step:
         node = self.go_on(state)
         node.variables = [(t, "Nut"), (done, f"{callee.label}_Done {inner.text()} {' '.join(inner.returns)} {t}")]
         run.unknown(node, t, done, [name for name in (*WIDE, "ram") if callee.changed.get(name, "") is None])
-        run.assume(node, callee.contract.ensures, inner, f"{done}.claim")
+        run.assume(node, callee.contract.ensures, inner, f"{done}.claim", Known(t, left_by(done, node, pages), inner.text()))
         if callee.uses_memory:
             know.use(callee.knowledge.highest)
         steps = form_of(callee.bound, inner, inner)

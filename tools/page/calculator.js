@@ -9,7 +9,7 @@ const LONGEST_BODY = 8388608;
 const LONGEST_FILES = (LONGEST_BODY - 65536) / 4 * 3;
 
 /** Returns a number of bytes for a message. */
-const inBytes = (count) => `${count.toLocaleString("en")} bytes`;
+const inBytes = (count) => counted(count, "byte");
 
 let session = null;         // the number of the session that the page shows
 let entries = [];           // its commands with their replies, as the server sent them, and whether they repeat those of a session before
@@ -227,8 +227,8 @@ function tellRefusals() {
   if (!refused.length) return tellStop();
   const [entry, at] = refused.length > 1 ? refused[0] : refused.at(-1);
   const words = refusedOf(entry);
-  const count = refused.length > 1 ? `${refused.length} commands were refused, the first is command ${at + 1}: ` : "";
-  const later = refused.length === 1 && at < entries.length - 1 && !waits ? `command ${at + 1} was refused: ` : "";
+  const count = refused.length > 1 ? `${refused.length} commands were refused, the first is command ${commandNumber(at)}: ` : "";
+  const later = refused.length === 1 && at < entries.length - 1 && !waits ? `command ${commandNumber(at)} was refused: ` : "";
   const why = reasons[at] ? `: ${reasons[at]}` : "";
   const text = `${count}${later}${entry.reply.at(-1)}  ${words}${why}`;
   if (by("refusal").textContent === text) return;
@@ -251,7 +251,7 @@ function tellStop() {
   const isDone = since < entries.length && !entry.isRepeated && !waits;
   const reason = isDone && /^ran (\d+) (Break|Limit)$/.exec(entry.reply[0] ?? "");
   if (!reason) return;
-  const why = reason[2] === "Break" ? "Stopped at a breakpoint" : `Stopped after ${Number(reason[1]).toLocaleString("en")} steps`;
+  const why = reason[2] === "Break" ? "Stopped at a breakpoint" : `Stopped after ${counted(Number(reason[1]), "step")}`;
   tell(`${why}: Run goes on`, true);
 }
 
@@ -393,7 +393,6 @@ function listenToKeys() {
 
 /** Shows a session that was saved in this file, without a server. */
 function replay(answer) {
-  namePages(answer.pages);
   take({ ...answer, ended: null, waits: 0 });
   isGone = true;
   document.body.classList.add("recorded");

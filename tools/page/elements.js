@@ -59,4 +59,7 @@ const textOf = (characters) => new TextDecoder().decode(bytesOf(characters));
 /** Returns an address for a file that the page makes itself. */
 const addressOf = (...parts) => URL.createObjectURL(new Blob(parts));
 
+/** Returns a count with its noun, for example "1 step" or "2,000 steps". */
+const counted = (count, noun) => `${count.toLocaleString("en")} ${noun}${count === 1 ? "" : "s"}`;
+
 const moment = (milliseconds) => new Promise((done) => setTimeout(done, milliseconds));

@@ -63,7 +63,8 @@ function currentCommand() {
 function stepsMade(number, state) {
   if (lesson.numbers[number] !== state.entries - 1) return [];
   const [all, made] = [lesson.parts[number][0], state.doing].map((one) => /^(?:step|trace) (\d+)$/.exec(one.trim())?.[1]);
-  return all && made ? [make("p", { class: "none" }, `${made} of ${all} steps were made`)] : [];
+  const verb = made === "1" ? "was" : "were";
+  return all && made ? [make("p", { class: "none" }, `${made} of ${counted(Number(all), "step")} ${verb} made`)] : [];
 }
 
 // How many lines of a block or a reply a lesson shows at a time.
@@ -138,14 +139,37 @@ function closeQuestion() {
   by("verdict").textContent = "";
 }
 
-/** Returns whether an answer names a value: numbers may be written in other ways, digits without the zeros before them, and return
-    addresses without the empty ones after them. */
-function isSame(answer, value, { name, isWord }) {
+/** Returns the number that a text spells with the separators of the display, which flag 28 chooses, and the place value of its last digit;
+    NaN if it spells none. An exponent may follow a space, a minus or an E. */
+function numberShown(text, flags) {
+  const hasPoint = flags.split(" ").includes("28");
+  const plain = hasPoint ? text : text.replace(/[.,]/g, (one) => one === "." ? "," : ".");
+  const found = /^(-?)(\d{1,3}(?:,\d{3})+|\d*)(?:\.(\d*))?(?:(?: |E|(?=-))(-?\d{1,2}))?$/.exec(plain);
+  if (!found || !found[2] && !found[3]) return [NaN, 0];
+  const [, sign, whole, part = "", exponent = "0"] = found;
+  return [Number(`${sign}${whole.replaceAll(",", "")}.${part}E${exponent}`), Number(`1E${Number(exponent) - part.length}`)];
+}
+
+/** Returns whether an answer spells a number: in any usual way, or as the display writes it. If the display shows this number in fewer
+    digits, the answer may be that. */
+function isSameNumber(given, wanted, name, { flags: [flags], display }) {
+  const answers = [given === "" ? NaN : Number(given), numberShown(given, flags)[0]];
+  const value = name === "display" || wanted === "" ? numberShown(wanted, flags)[0] : Number(wanted);
+  if (answers.includes(value) && !Number.isNaN(value)) return true;
+  const [rounded, unit] = numberShown(display[0].trim(), flags);
+  return name === "X" && answers.includes(rounded) && !Number.isNaN(rounded) && Math.abs(rounded - value) < 0.51 * unit;
+}
+
+/** Returns whether an answer names a value in a state: numbers may be written in other ways, digits without the zeros before them, return
+    addresses without the empty ones after them, and what the display shows without the `_` after it. */
+function isSame(answer, value, { name, isWord }, state) {
   const [given, wanted] = [answer, value].map((text) => text.trim().toUpperCase().replace(/^"(.*)"$/, "$1"));
   if (given === wanted) return true;
   if (name === "RTN") return given !== "" && given.split(/[ ,]+/).join(" ").padEnd(wanted.length, " 0000") === wanted;
   if (isWord) return /^[0-9A-F]+$/.test(given) && given.replace(/^0+(?=.)/, "") === wanted.replace(/^0+(?=.)/, "");
-  return given !== "" && wanted !== "" && Number(given) === Number(wanted);
+  if (name === "ALPHA") return false;
+  const typed = name === "display" ? wanted.replace(/_$/, "").trim() : wanted;
+  return given !== "" && given === typed || isSameNumber(given, typed, name, state);
 }
 
 /** Executes the step that was asked about, and compares the answer with what the bench shows then. */
@@ -154,8 +178,8 @@ async function answerQuestion() {
   if (!answered) return;
   const given = by("answer").value.trim();
   await makeNext(answered.kind);
-  const value = valueOf(present(), answered) ?? "";
-  const [isRight, shownName] = [given !== "" && isSame(given, value, answered), answered.name === "display" ? "the display" : answered.name];
+  const value = valueOf(present(), answered) || "empty";
+  const [isRight, shownName] = [given !== "" && isSame(given, value, answered, present()), answered.name === "display" ? "the display" : answered.name];
   const text = `${shownName} is ${value}${given === "" || isRight ? "" : `, and not ${given}`}.`;
   by("verdict").textContent = isRight ? `Right: ${text}` : text.replace(/^t/, "T");
 }

@@ -79,14 +79,14 @@ function showMemory(state, before) {
     filled(cell, { class: classes.filter(Boolean).join(" "), "aria-label": label.filter(Boolean).join(", ") }, []);
     cell.textContent = isChanged ? "●" : kind === "status" ? name : sign;
   }
-  showDivided(divided);
+  showDivided(state);
   showCell(cellShown ?? STATUS_NAMES.indexOf("c"));
 }
 
-/** Draws what register c says, and whether memory is sound. */
-function showDivided([statistics, constant, curtain, end, , isSound]) {
+/** Draws what register c says, and whether memory is sound. The curtain is the address of R00, if there is a data register. */
+function showDivided({ divided: [statistics, constant, curtain, end, , isSound], registers }) {
   const parts = [[statistics, "first statistics register"], [constant, isSound ? "memory is sound" : "memory is not sound"],
-    [hexadecimal(curtain), "the curtain, R00"], [hexadecimal(end), "the register of .END."]];
+    [hexadecimal(curtain), `the curtain${registers.length ? ", R00" : ""}`], [hexadecimal(end), "the register of .END."]];
   fill("divided", ...parts.map(([digits, words]) => make("div", {}, make("dt", {}, digits), make("dd", {}, words))));
 }
 

@@ -30,10 +30,11 @@ function show() {
   document.body.classList.toggle("busy", isChanging());
   document.body.classList.toggle("micro", state.pos[0].startsWith("Micro"));
   showNext(state);
-  showBreakpoints();
+  showBreakpoints(state);
   showStack(state, before);
   showProgram(state);
   showReturns(state);
+  askIfOff(state);
   if (isOpen("modules-panel")) showModules(state);
   if (isOpen("processor-panel")) showProcessor(state, before);
   if (isOpen("listing-panel")) showListing(state);
@@ -47,9 +48,12 @@ function show() {
   showLesson(state);
 }
 
+/** Returns the sentence about what is executed next. If it depends on whether the display is off, there is one for each case. */
+const sentenceOf = (state) => (state.off === null ? null : state.nexts[Number(state.off)]) ?? state.next;
+
 /** Shows what is executed next, and whether this is only when a program runs. */
 function showNext(state) {
-  const text = [state.word, state.next].filter(Boolean).join(": ") || withoutModule(state);
+  const text = [state.word, sentenceOf(state)].filter(Boolean).join(": ") || withoutModule(state);
   const isWaiting = text && state.pos[0].startsWith("Idle");
   by("next").replaceChildren(...(isWaiting ? [make("span", { class: "none" }, "When the program runs: ")] : []), text);
 }
@@ -61,7 +65,7 @@ function showLights(state) {
   const lights = lightsOf(state);
   fill("lights", ...lights.map(([name, isLit]) => make("span", { class: isLit ? "lit" : "" }, name)));
   const lit = lights.filter(([, isLit]) => isLit).map(([name]) => name);
-  const said = `${state.display[0].trim() || "empty display"}${lit.length ? ` (${lit.join(" ")})` : ""}`;
+  const said = `${state.display[0].trim() || (state.off ? "display off" : "empty display")}${lit.length ? ` (${lit.join(" ")})` : ""}`;
   clearTimeout(saying);
   if (!isChanging() && by("live").textContent !== said) saying = setTimeout(() => by("live").textContent = said, 200);
 }
@@ -80,15 +84,29 @@ function showStack(state, before) {
     make("td", { class: "digits" }, ...digitsOf(row.slice(2), before.stack[at].slice(2))))));
 }
 
-/** Returns a button that sets a breakpoint or removes it. */
+/** Returns whether a state has a breakpoint at a word or a line. */
+const hasBreak = (state, kind, place) => state.breaks.some(([of, at]) => of === kind && at === place);
+
+/** Returns the name of a place: of a word, or of the position of a line. */
+const placeName = (kind, place) => `${kind === "w" ? "word " : kind === "l" ? "position " : "position P"}${place}`;
+
+/** Returns a button that sets a breakpoint or removes it. It shows whether the breakpoint is set in the state that is shown. */
 function breakpoint(kind, place, isNamed = false) {
-  const isSet = present().breaks.some(([of, at]) => of === kind && at === place);
-  const name = `${kind === "w" ? "word " : kind === "l" ? "line " : "line P"}${place}`;
+  const isSet = hasBreak(looked()[0], kind, place);
+  const name = placeName(kind, place);
   const button = make("button", { type: "button", class: "break", "aria-pressed": String(isSet), "data-at": kind + place,
     disabled: isGone ? "" : null, "aria-label": `breakpoint at ${name}` }, isSet ? "●" : "○", isNamed ? ` ${name}` : "");
-  const deck = `${isSet ? "unbreak" : "break"} ${kind} ${kind === "l" ? Number(place) : place}\n`;
-  button.addEventListener("click", () => begun(() => ask({ do: "give", deck, first: true })));
+  button.addEventListener("click", () => begun(() => setBreak(kind, place, !isSet)));
   return button;
+}
+
+/** Sets a breakpoint, or removes it. If a past state is shown, this is done in the present, unless it is done there already. */
+async function setBreak(kind, place, isWanted) {
+  if (hasBreak(present(), kind, place) === isWanted) {
+    await goTo(() => Infinity);
+    return tell(`The breakpoint at ${placeName(kind, place)} is ${isWanted ? "set" : "removed"} already in the present state`, true);
+  }
+  return ask({ do: "give", deck: `${isWanted ? "break" : "unbreak"} ${kind} ${kind === "l" ? Number(place) : place}\n`, first: true });
 }
 
 /** Returns a button that runs to a line or an instruction. */
@@ -107,8 +125,7 @@ function stopping(kind, place, isNext, ...children) {
 }
 
 /** Lists all breakpoints, including those of lines and words that are not visible. */
-function showBreakpoints() {
-  const { breaks } = present();
+function showBreakpoints({ breaks }) {
   if (!isNew("breaks", breaks)) return;
   by("breaks").hidden = !breaks.length;
   fill("breaks", "Breakpoints", ...breaks.map(([kind, place]) => breakpoint(kind, place, true)));
@@ -138,7 +155,7 @@ function showProgram(state) {
   const isInPage = state.pos[0].split(" ")[1].startsWith("P");
   const [lines, line] = linesOf(state);
   const next = line?.[0] ?? null;
-  if (!isNew("program", isInPage, lines, next, state.broken, lines.length ? "" : state.next, present().breaks, isGone, state.program,
+  if (!isNew("program", isInPage, lines, next, state.broken, lines.length ? "" : state.next, state.breaks, isGone, state.program,
              state.keys_if)) return;
   const kind = isInPage ? "p" : "l";
   const why = state.pos[0].startsWith("Micro") ? "Memory has no line that can be read." : state.next;
@@ -147,8 +164,7 @@ function showProgram(state) {
   reveal(by("program"), by("program").querySelector(".next"));
 }
 
-let returns = {};           // the state whose return addresses were asked for: its session and its number, and the addresses
-let searching = null;       // what asks for them
+let searching = null;       // what asks for the return addresses of a state
 
 /** Returns whether the return addresses of a state are shown: not while a function in microcode runs, nor if no program is in memory. */
 const hasReturns = (state) => !state.pos[0].startsWith("Micro") && (state.pos[0].split(" ")[1].startsWith("P") || linesOf(state)[0].length > 1);
@@ -156,39 +172,61 @@ const hasReturns = (state) => !state.pos[0].startsWith("Micro") && (state.pos[0]
 /** Shows to which lines the program returns. They are asked for when the page has shown a state for a moment, because a second bench must
     execute the session again. Until it has answered, the page says that they are read. */
 function showReturns(state) {
-  const number = shown ?? lastNumber();
-  const isFound = returns.session === session && returns.number === number;
+  const isFound = state.returns !== null;
   by("returns").hidden = !hasReturns(state) || isGone && !isFound;
-  if (isNew("returns", isFound, isFound && returns.found, isChanging())) fill("returns", ...returnsTold(isFound));
+  if (isNew("returns", state.returns, isChanging())) fill("returns", ...returnsTold(state.returns));
   clearTimeout(searching);
   if (isFound || isGone || isChanging() || !hasReturns(state)) return;
-  searching = setTimeout(() => findReturns(number), 150);
+  const [of, number] = [session, shown ?? lastNumber()];
+  searching = setTimeout(() => findReturns(of, number), 150);
 }
 
-/** Returns what is said of the return addresses. */
-function returnsTold(isFound) {
-  if (!isFound) return [`Return addresses: ${isChanging() ? "they are read when the run stops" : "reading …"}`];
-  if (!returns.found) return ["Return addresses: they cannot be read"];
-  if (!returns.found.length) return ["No return address"];
-  return ["RTN returns to ", ...returns.found.flatMap((one, at) => [at ? ", then to " : "", make("code", {}, one.join(" ").trim())])];
+/** Returns what is said of the return addresses and of the reason if they cannot be read; null if they are not known yet. */
+function returnsTold(known) {
+  if (known === null) return [`Return addresses: ${isChanging() ? "they are read when the run stops" : "reading …"}`];
+  const [found, why] = known;
+  if (!found) return [`Return addresses: they cannot be read${why && ", because " + why}`];
+  if (!found.length) return ["No return address"];
+  return ["RTN returns to ", ...found.flatMap((one, at) => [at ? ", then to " : "", make("code", {}, one.join(" ").trim())])];
 }
 
-async function findReturns(number) {
-  const of = session;
-  const isShown = () => of === session && number === (shown ?? lastNumber()) && !isChanging() && !isGone;
+/** Asks for the return addresses of a state until they are found, while it is shown. The state keeps them. */
+async function findReturns(of, number) {
+  const isShown = () => of === session && number === (shown ?? lastNumber()) && looked()[0].returns === null && !isChanging() && !isGone;
   while (isShown()) {
-    const answer = await ask({ do: "returns", state: number, of }).catch(() => ({ returns: null }));
+    const answer = await ask({ do: "returns", state: number, of }).catch(() => ({ returns: null, why: "" }));
     if (answer.done === false) continue;
-    returns = { session: of, number, found: answer.returns };
-    if (isShown()) showReturns(looked()[0]);
+    if (of !== session || number !== (shown ?? lastNumber())) break;
+    looked()[0].returns = [answer.returns, answer.why];
+    showReturns(looked()[0]);
     break;
+  }
+}
+
+let deciding = null;        // what asks whether the display is off
+
+/** Asks whether an empty display is off, when the page has shown a state for a moment. A second bench must execute the session again. */
+function askIfOff(state) {
+  clearTimeout(deciding);
+  if (state.off !== null || isGone || isChanging()) return;
+  const [of, number] = [session, shown ?? lastNumber()];
+  deciding = setTimeout(() => findIfOff(of, number), 150);
+}
+
+async function findIfOff(of, number) {
+  const isShown = () => of === session && number === (shown ?? lastNumber()) && looked()[0].off === null && !isChanging() && !isGone;
+  while (isShown()) {
+    const answer = await ask({ do: "display", state: number, of }).catch(() => ({ off: null }));
+    if (answer.done === false) continue;
+    if (answer.off === null || !isShown()) break;
+    looked()[0].off = answer.off;
+    show();
   }
 }
 
 let listing = null;         // the page that is listed: its page, its bank, how it is listed, and its rows
 let plugsKnown = -1;        // for which number of plugs the plugged banks are listed
 let listedAt = -1;          // the number of the change after which the page was listed
-let pageNames = {};         // the names of the pages: those of their files, or of their first labels
 
 /** Lists the page that is chosen in the panel. */
 async function listPage() {
@@ -228,12 +266,13 @@ function showModules(state) {
     act(listPage);
   }
   const names = state.functions.map((text) => text.replace(/^XROM /, ""));
-  const plugged = state.pages.map((page) => pageNames[page] ? `${page} (${pageNames[page]})` : page);
+  const plugged = state.plugged.map(([page, name]) => name ? `${page} (${name})` : page);
   const pages = `Pages ${plugged.join(", ")}${names.length ? `: ${names.join(", ")}` : ""}`;
-  by("modules").textContent = state.pages.length ? pages : "No module is plugged.";
+  by("modules").textContent = plugged.length ? pages : "No module is plugged.";
+  by("listed-when").hidden = shown === null || !listing;
   const next = listing && listedNext(state);
   const isNext = (place) => place === next;
-  if (!isNew("listed", listing, next, present().breaks, isGone)) return;
+  if (!isNew("listed", listing, next, state.breaks, isGone)) return;
   if (!listing) return fill("listed");
   if (listing.kind === "lines" && listing.bank !== "1") {
     return fill("listed", make("p", { class: "none" }, "Program lines are read in bank 1 only, whichever bank is active."));
@@ -245,17 +284,10 @@ function showModules(state) {
   return reveal(by("listed"), by("listed").querySelector(".next"));
 }
 
-/** Stores the names of plugged pages, of which each bank has one. */
-function namePages(pages) {
-  pageNames = {};
-  for (const [page, , name] of pages) pageNames[page] ||= name;
-}
-
 /** Fills the list of plugged banks, and lists the chosen one again. */
 async function findPages() {
   const { pages } = await ask({ do: "pages" });
   const chosen = by("list-page").value;
-  namePages(pages);
   by("list-page").replaceChildren(make("option", { value: "" }, "none"), ...pages.map(([page, bank, name]) =>
     make("option", { value: `${page} b${bank}` }, `${page}, bank ${bank}${name ? `: ${name}` : ""}`)));
   by("list-page").value = pages.some(([page, bank]) => `${page} b${bank}` === chosen) ? chosen : "";
@@ -339,10 +371,15 @@ function shortened(lines, first, last) {
   return (left > 1 ? [...lines.slice(0, first), `… ${left} lines`, ...lines.slice(-last)] : lines).join("\n");
 }
 
-/** Returns a button that goes on from the end of a command of the session. */
-function goingOn(entry) {
+const isComment = ({ text }) => text.startsWith("#") || !text.trim();
+
+/** Returns the number of an entry of the session among its commands: comments and empty lines are not counted. */
+const commandNumber = (entry) => entries.slice(0, entry + 1).filter((one) => !isComment(one)).length;
+
+/** Returns a button that goes on from the end of an entry of the session, which is the command with this number. */
+function goingOn(entry, number) {
   const button = make("button", { type: "button", class: "break", title: "Go on from here", "data-at": `on ${entry}`,
-    disabled: isGone ? "" : null, "aria-label": `go on from after command ${entry + 1}` }, "↶");
+    disabled: isGone ? "" : null, "aria-label": `go on from after command ${number}` }, "↶");
   button.addEventListener("click", () => begun(() => branchFrom({ entry })));
   return button;
 }
@@ -361,15 +398,18 @@ function showSession(state) {
   const end = sessionEnd(state);
   const first = Math.max(0, end - MOST_ENTRIES);
   if (!isNew("session", first, end, entries.slice(first, end).at(-1), session, shown === null ? 0 : [state.last, state.doing])) return;
+  const earlier = commandNumber(first - 1);
+  let number = earlier;
   const rows = entries.slice(first, end).map((_, at) => {
     const { text, reply } = commandIn(state, first + at);
     const kind = `reply${reply.at(-1)?.startsWith("! ") ? " refusal" : ""}`;
-    const isComment = text.startsWith("#") || !text.trim();
-    return make("li", { class: isComment ? "comment" : "" }, ...(isComment ? [] : [goingOn(first + at)]),
+    const isNote = isComment({ text });
+    number += isNote ? 0 : 1;
+    return make("li", { class: isNote ? "comment" : "" }, ...(isNote ? [] : [goingOn(first + at, number)]),
       make("pre", {}, shortened(text.trimEnd().split("\n"), 4, 2)),
       ...(reply.length ? [make("pre", { class: kind }, shortened(reply, 36, 1))] : []));
   });
-  if (first) rows.unshift(make("li", { class: "comment" }, `${first} earlier commands are in the saved deck`));
+  if (first) rows.unshift(make("li", { class: "comment" }, `${earlier} earlier commands are in the saved deck`));
   fill("session", ...rows);
   by("session").scrollTop = by("session").scrollHeight;
 }

@@ -9,9 +9,58 @@ function changesOf(state, before) {
   for (const name of Object.keys(now)) if (name !== "PC") compare(name, now[name], old[name]);
   state.stack.forEach((row, at) => row !== before.stack[at] && compare(row[0], state.numbers[at], before.numbers[at]));
   state.values.forEach((value, at) => compare(registerName(at), value, before.values[at]));
+  // Without a division of memory, SIZE is not known.
+  if (state.divided[4] && before.divided[4]) compare("SIZE", state.registers.length, before.registers.length);
   compare("ALPHA", `"${state.alpha[0]}"`, `"${before.alpha[0]}"`);
   compare("flags", state.flags[0], before.flags[0]);
-  return found;
+  const lines = linesChanged(state, before);
+  return [...found, ...lines, ...memoryChanged(state, before, lines.length > 0)];
+}
+
+/** Returns where the lines of a program were inserted or deleted: the lines around them are the same in both states. If equal lines are side
+    by side, it is the place that the calculator shows, after lines were inserted, and before a line was deleted. */
+function placeChanged(longer, first, count, isAtEnd) {
+  const text = (at) => longer.lines[at].slice(5);
+  const isShown = (at) => longer.lines[at + (isAtEnd ? count - 1 : 0)].slice(0, 4) === longer.line[0];
+  for (let at = first; ; at--) {
+    if (isShown(at)) return at;
+    if (!at || text(at - 1) !== text(at - 1 + count)) return first;
+  }
+}
+
+/** Returns what a step has changed of the lines of programs, as one short text; an empty list if it has changed nothing of them. */
+function linesChanged(state, before) {
+  const [now, old] = [state, before].map(({ lines }) => lines.map((text) => text.slice(5)));
+  if (now.join("\n") === old.join("\n")) return [];
+  if (!now.length || !old.length) return [`program: ${now.length ? "its lines can be read again" : "no line can be read"}`];
+  let [first, last] = [0, 0];
+  const most = Math.min(now.length, old.length);
+  while (first < most && now[first] === old[first]) first += 1;
+  while (last < most - first && now.at(-1 - last) === old.at(-1 - last)) last += 1;
+  const [added, lost] = [now.length - first - last, old.length - first - last];
+  if (added && lost) {
+    const number = before.coded[first][0];
+    return [added === 1 && lost === 1 ? `program: line ${number}: ${old[first]} → ${now[first]}` :
+      `program: ${lost} line${lost > 1 ? "s" : ""} replaced by ${added}, from line ${number} on`];
+  }
+  const [of, count, what] = added ? [state, added, "inserted"] : [before, lost, "deleted"];
+  const at = placeChanged(of, first, count, added > 0);
+  const number = of.coded[at][0];
+  return [count === 1 ? `program: line ${number} ${what}: ${of.lines[at].slice(5)}` : `program: ${count} lines ${what}, from line ${number} on`];
+}
+
+/** Returns what a step has changed of the registers of memory that no other change names, as short texts. */
+function memoryChanged(state, before, hasLines) {
+  const [now, old] = [state.memory, before.memory];
+  const named = state.alpha[0] === before.alpha[0] ? "TZYXLd" : "TZYXLMNOPd";
+  const found = STATUS_NAMES.map((name, at) => [name, at]).filter(([name, at]) => now[at] !== old[at] && !named.includes(name))
+    .map(([name, at]) => `${name} ${old[at]} → ${now[at]}`);
+  const c = STATUS_NAMES.indexOf("c");
+  if (hasLines || now[c] !== old[c]) return found;
+  const isNamed = (address) => state.registers.length && address >= state.divided[2];
+  const others = now.map((_, at) => at).filter((at) => at >= STATUS_NAMES.length && now[at] !== old[at] && !isNamed(addressAt(at)));
+  if (others.length === 1) return [...found, `${hexadecimal(addressAt(others[0]))} ${old[others[0]]} → ${now[others[0]]}`];
+  return others.length ? [...found, `${others.length} registers from ${hexadecimal(addressAt(others[0]))} on`] : found;
 }
 
 /** Returns the instruction or line that was executed between two states, as the bench listed it; null if it was not exactly one. */
@@ -62,8 +111,8 @@ function showTrace() {
 
 function showPast() {
   by("past").hidden = shown === null;
-  const ago = lastNumber() - (shown ?? 0);
-  by("past").querySelector("span").textContent = `This is the state ${ago} step${ago === 1 ? "" : "s"} ago.`;
+  const before = lastNumber() - (shown ?? 0);
+  by("past").querySelector("span").textContent = `This is an earlier state: ${before} state${before === 1 ? "" : "s"} before the last one.`;
   Object.assign(by("moment"), { min: firstNumber(), max: lastNumber() });
   if (goal === null) by("moment").value = shown ?? lastNumber();
 }
@@ -110,7 +159,8 @@ async function find(number) {
   if (found) return keepOlder(found);
   if (reached === undefined) throw new Error("");
   if (by("refusal").textContent !== REPEATING) tell(REPEATING, true);
-  by("rate").textContent = `${reached.toLocaleString("en")} of ${entries.length.toLocaleString("en")} commands`;
+  const [made, all] = [reached, entries.length].map((count) => commandNumber(count - 1));
+  by("rate").textContent = `${made.toLocaleString("en")} of ${counted(all, "command")}`;
   return show();
 }
 
@@ -201,7 +251,7 @@ const linkBranch = () => by("save-branch").href = `deck?branch=${by("branches").
 async function runTo(kind, place) {
   if (isGone || isProgramming("run to a line")) return;
   const words = `${kind} ${kind === "l" ? Number(place) : place}\n`;
-  const isSet = present().breaks.some(([of, at]) => of === kind && at === place);
+  const isSet = hasBreak(present(), kind, place);
   if (!isSet) await ask({ do: "give", deck: `break ${words}`, first: true });
   try {
     await runOn();
@@ -213,5 +263,5 @@ async function runTo(kind, place) {
   if (refusedNow().length) return;
   const at = present().pos[0].split(" ")[1];
   const wanted = `${kind === "p" ? "P" : ""}${place}`;
-  tell(at === wanted ? `At ${kind === "l" ? "line " : ""}${place}` : `Stopped at ${at}, before ${wanted} was reached`, true);
+  tell(at === wanted ? `At ${placeName(kind, place)}` : `Stopped at ${at}, before ${wanted} was reached`, true);
 }

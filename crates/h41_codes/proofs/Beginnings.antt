@@ -11,7 +11,7 @@ use Rattle.h41_codes.specs.declared.characters.Character.{Character}
 use Rattle.h41_codes.specs.declared.line.Line.TheVariants.{GlobalLabel, Number}
 use Rattle.h41_codes.specs.Codes.{character_code}
 use Rattle.h41_codes.specs.Heads.{IsIn}
-use Rattle.h41_codes.specs.ByteGrammar.{spelling, link_high, link_low, GoesOn, IsBytes, IsLine, IsWhole, Spells, Begins, BeginsNoLine}
+use Rattle.h41_codes.specs.ByteGrammar.{spelling, link_high, link_low, GoesOn, IsBytes, IsLine, IsComplete, Spells, Begins, BeginsNoLine}
 use Rattle.h41_codes.proofs.Reading.{line_at, line_again}
 
 -- The bytes are those of the line and the rest.
@@ -52,17 +52,17 @@ answers_line {E} bytes (Err fault) begins broken line count =
 
 -- Bytes whose first ones are those of a line begin with it.
 pub begins_by : (bytes : List ℕ) (line : Line) (count : ℕ) → count ≤ length bytes → IsLine line → spelling line ≡ take count bytes
-    → IsWhole line (drop count bytes) → Begins bytes line count
+    → IsComplete line (drop count bytes) → Begins bytes line count
 begins_by bytes line count inside valid same whole =
     record { inside = inside; spells = record { valid = valid; same = sym same }; whole = whole }
 
 -- The bytes of a line begin with it, whatever follows.
-pub begins_spelled : (line : Line) (rest : List ℕ) → IsLine line → IsWhole line rest
+pub begins_spelled : (line : Line) (rest : List ℕ) → IsLine line → IsComplete line rest
     → Begins (spelling line ++ rest) line (length (spelling line))
 begins_spelled line rest valid whole = record {
   inside = omega (arith, length-append (spelling line) rest);
   spells = record { valid = valid; same = take_at (spelling line) rest (length (spelling line)) refl };
-  whole = subst (λ (bytes : List ℕ). IsWhole line bytes) (sym (drop-append_seam (spelling line) rest)) whole;
+  whole = subst (λ (bytes : List ℕ). IsComplete line bytes) (sym (drop-append_seam (spelling line) rest)) whole;
 }
 
 -- The first bytes of a list.

@@ -2,7 +2,7 @@
 use Rattle.std.proofs.Common.{◌≡◌, ℕ, zero, suc, ◌<◌, ◌≤◌, ◌⊎◌, List, [], ◌∷◌, length, take, drop, refl, sym, ◌∙◌, ap, subst, arith, inl}
 use Rattle.std.proofs.Common.{inr}
 use Rattle.std.proofs.lemmas.Bool.{cases_eq, cases_lt}
-use Rattle.h41_codes.specs.ByteGrammar.{spelling, IsBytes, IsText, IsLine, IsOperand, IsWhole, GoesOn, Begins}
+use Rattle.h41_codes.specs.ByteGrammar.{spelling, IsBytes, IsText, IsLine, IsOperand, IsComplete, GoesOn, Begins}
 use Rattle.h41_codes.specs.ByteLaws.{LineOrNone}
 use Rattle.h41_codes.specs.declared.line.Line.{Line}
 use Rattle.h41_codes.specs.declared.line.Line.TheVariants.{Null, LocalLabel, Number, Named, Register, Plain, WithOperand, Module}
@@ -104,7 +104,7 @@ equal_either a b = elim (cases_eq a b) [
   | inr lacks ↦ inr lacks
 ]
 
-whole_either : (line : Line) (rest : List ℕ) → Either (IsWhole line rest)
+whole_either : (line : Line) (rest : List ℕ) → Either (IsComplete line rest)
 whole_either (Number characters) rest = follows (goes_either rest) (equal_either (length characters) 16)
 whole_either Null rest = inl tt
 whole_either line rest = inl tt

@@ -10,18 +10,18 @@ use Rattle.h41_codes.specs.declared.line.Operand.{Operand}
 use Rattle.h41_codes.specs.declared.line.Operand.TheVariants.{Direct}
 use Rattle.h41_codes.specs.declared.line.Line.{Line}
 use Rattle.h41_codes.specs.declared.line.Line.TheVariants.{Null, Number, WithOperand, ShortGoTo, GlobalLabel, End, FinalEnd, BranchTo}
-use Rattle.h41_codes.specs.ByteGrammar.{spelling, IsLine, IsWhole}
+use Rattle.h41_codes.specs.ByteGrammar.{spelling, IsLine, IsComplete}
 use Rattle.h41_codes.specs.ByteLaws.{IsNumber, NoPrefix, CanonicalIsLine, CanonicalIsShortest, CanonicalOnce}
 use Rattle.h41_codes.specs.Canon.{canonical_line, shortest_function, shortest_branch}
 use Rattle.h41_codes.proofs.Reading.{line_at, line_again}
 
 -- A line that is no number is complete, and so is any line at the end of the bytes.
-whole_unless : (line : Line) (rest : List ℕ) → (IsNumber line → ⊥) → IsWhole line rest
+whole_unless : (line : Line) (rest : List ℕ) → (IsNumber line → ⊥) → IsComplete line rest
 whole_unless (Number characters) rest other = absurd (other tt)
 whole_unless Null rest other = tt
 whole_unless line rest other = tt
 
-whole_end : (line : Line) → IsWhole line []
+whole_end : (line : Line) → IsComplete line []
 whole_end (Number characters) = λ on. absurd on
 whole_end Null = tt
 whole_end line = tt

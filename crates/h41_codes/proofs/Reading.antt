@@ -20,7 +20,7 @@ use Rattle.h41_codes.specs.declared.line.Line.{Line}
 use Rattle.h41_codes.specs.declared.line.Line.TheVariants.{Null, LocalLabel, Number, Named, Register, Plain, WithOperand, Module}
 use Rattle.h41_codes.specs.declared.line.Line.TheVariants.{BranchIndirect, ShortGoTo, GlobalLabel, End, FinalEnd, BranchTo, Text}
 use Rattle.h41_codes.specs.Codes.{parameter_function_code, register_function_code, name_function_code, character_code, branch_code}
-use Rattle.h41_codes.specs.ByteGrammar.{spelling, operand_byte, indirect_byte, mark_bits, label_byte, IsLine, IsOperand, IsWhole, GoesOn}
+use Rattle.h41_codes.specs.ByteGrammar.{spelling, operand_byte, indirect_byte, mark_bits, label_byte, IsLine, IsOperand, IsComplete, GoesOn}
 use Rattle.h41_codes.proofs.Intervals.{edges, kind, is_interval, kind_at}
 use Rattle.h41_codes.proofs.Tables.{function_at, function_again, function_range, parameter_function_at, parameter_function_again}
 use Rattle.h41_codes.proofs.Tables.{character_at, character_again, character_range}
@@ -171,7 +171,7 @@ leading_again (suc n) (character ∷ characters) rest room whole =
     ∙ ap (λ cs. character ∷ cs)
     (leading_again n characters rest (omega arith) (λ on. let all : suc (length characters) ≡ suc n = whole on in omega arith))
 
-number_again : (characters : List Character) (rest : List ℕ) → IsLine (Number characters) → IsWhole (Number characters) rest
+number_again : (characters : List Character) (rest : List ℕ) → IsLine (Number characters) → IsComplete (Number characters) rest
     → line_at (spelling (Number characters) ++ rest) ≡ Number characters
 number_again [] rest valid whole = absurd (omega (arith, valid.0))
 number_again (character ∷ characters) rest valid whole =
@@ -214,7 +214,7 @@ register_range RecallRegister register inside = (omega arith, omega arith)
 register_range StoreRegister register inside = (omega arith, omega arith)
 
 -- The bytes of a line are read as that line.
-pub line_again : (line : Line) (rest : List ℕ) → IsLine line → IsWhole line rest → line_at (spelling line ++ rest) ≡ line
+pub line_again : (line : Line) (rest : List ℕ) → IsLine line → IsComplete line rest → line_at (spelling line ++ rest) ≡ line
 unfolding line_at
 line_again Null rest valid whole = by_kind 0 0x00 0x01 (0x00 ∷ rest) Null refl (omega arith) (omega arith) refl
 line_again (LocalLabel label) rest valid whole =

@@ -131,15 +131,15 @@ GoesOn (byte ∷ bytes) = (0x10 ≤ byte) × (byte ≤ 0x1C)
 
 -- A line that is followed by these bytes is complete: if a number could continue in them, it
 -- already has 16 characters.
-abbrev pub IsWhole : Line → List ℕ → Type 0
-IsWhole (Number characters) rest = GoesOn rest → length characters ≡ number_most
-IsWhole line rest = Unit {0}
+abbrev pub IsComplete : Line → List ℕ → Type 0
+IsComplete (Number characters) rest = GoesOn rest → length characters ≡ number_most
+IsComplete line rest = Unit {0}
 
 -- Bytes begin with a line of this many bytes, which is complete.
 pub record Begins (bytes : List ℕ) (line : Line) (count : ℕ) : Type 0 where
   pub inside : count ≤ length bytes
   pub spells : Spells (take count bytes) line
-  pub whole : IsWhole line (drop count bytes)
+  pub whole : IsComplete line (drop count bytes)
 
 -- Bytes begin with no line, however many of them are taken.
 abbrev pub BeginsNoLine : List ℕ → Type 0

@@ -2,14 +2,14 @@
 use Rattle.std.specs.Prelude.{◌≡◌, ℕ, ◌≤◌, ◌⊎◌, ◌↔◌, List, [], ◌++◌, length, slice_index}
 use Rattle.h41_codes.specs.declared.line.Line.{Line}
 use Rattle.h41_codes.specs.declared.line.Line.TheVariants.{Null, Number}
-use Rattle.h41_codes.specs.ByteGrammar.{spelling, IsLine, GoesOn, IsWhole, Begins}
+use Rattle.h41_codes.specs.ByteGrammar.{spelling, IsLine, GoesOn, IsComplete, Begins}
 use Rattle.h41_codes.specs.Canon.{canonical_line}
 
 -- The bytes of a line begin with that line, whatever follows. After a number of fewer than 16
 -- characters no character of a number may follow, because it would belong to the number.
 abbrev pub ByteRoundTrip : Type 0
 ByteRoundTrip =
-    (line : Line) (rest : List ℕ) → IsLine line → IsWhole line rest
+    (line : Line) (rest : List ℕ) → IsLine line → IsComplete line rest
     → Begins (spelling line ++ rest) line (length (spelling line))
 
 -- Bytes begin with one line at most.

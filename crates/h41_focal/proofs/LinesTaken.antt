@@ -33,6 +33,7 @@ use Rattle.h41_positions.specs.declared.position.Position.{Position}
 use Rattle.h41_positions.specs.declared.position.Position.TheVariants.{Memory, Page}
 use Rattle.h41_program.proofs.PositionsRead.{both_found}
 use Rattle.h41_program.proofs.ShortReads.{short_found}
+use Rattle.h41_program.specs.ProgramLines.{memory_source}
 use Rattle.h41_program.specs.declared.reading.Found.{Found}
 use Rattle.h41_ram.specs.RegisterMap.{RegisterMap, is_sound}
 use Rattle.h41_rows.specs.FunctionRows.{function_row}
@@ -147,7 +148,7 @@ pub number_stands : (pages : PageMap) (machine : Machine) (at : ℕ) (number : T
     → StandsNumber pages machine number (Memory next)
 number_stands pages machine at number next sound is (text, behind, plain, follows, numbers) =
     let found : Found = record { listed = record { position = at; line = lines.Number text }; behind = behind } in
-    let both = both_found machine.memory at found next plain.first follows in
+    let both = both_found (memory_source machine.memory) at found next plain.first follows in
     let stands = both_here pages machine.memory at (lines.Number text) next both in rw is (text, (sound, stands.0, stands.1), numbers)
 
 pub short_stands : (pages : PageMap) (memory : RegisterMap) (at : Position) (result : Option (ShortLine × Position))

@@ -6,7 +6,7 @@ use Rattle.h41_focal.proofs.RowApplied.{applied_to}
 use Rattle.h41_focal.specs.private.Carrying.{CarriesRow, Leads, manner_of, test_answer}
 use Rattle.h41_rows.specs.Computing.{WorksOn}
 use Rattle.h41_rows.specs.Computing as computing
-use Rattle.h41_rows.specs.Counters.{Way}
+use Rattle.h41_rows.specs.Counters.{Way, Up, Down}
 use Rattle.h41_focal.specs.Destinations as destinations
 use Rattle.h41_focal.specs.Destinations.{Destination, Arrives, Asks, HasNoLine, Stays, StepsFrom, Tells}
 use Rattle.h41_rows.specs.LineRows.{loop}
@@ -16,7 +16,7 @@ use Rattle.h41_rows.specs.Places.{Named, are_numbers, register_in}
 use Rattle.h41_rows.specs.RowEffects.{holds_in}
 use Rattle.h41_rows.specs.Rows.{Condition, LineRow}
 use Rattle.h41_rows.specs.Rows as rows
-use Rattle.h41_rows.specs.Values.{Computes, Counted}
+use Rattle.h41_rows.specs.Values.{Computes, OfOne, counted}
 use Rattle.h41_rows.specs.declared.fault.LineFault.{LineFault}
 use Rattle.h41_rows.specs.declared.fault.LineFault.TheVariants.{AlphaData}
 use Rattle.h41_focal.specs.declared.origin.Origin.{Origin}
@@ -167,8 +167,11 @@ twice false A B works = works
 
 pub loop_works :
     (way : Way) (memory : RegisterMap) (address : ℕ) (result : Result (List ℕ) LineFault)
-    → WorksOn memory address (Counted way Named) result
+    → WorksOn memory address (OfOne (counted way) Named) result
     → Works memory address (loop way) result
-loop_works way memory address result works =
+loop_works Up memory address result works =
     twice (is_some (number_in (register_in memory address Named)))
-    (Computes (Counted way Named) memory address result) (result ≡ Err AlphaData) works
+    (Computes (OfOne (counted Up) Named) memory address result) (result ≡ Err AlphaData) works
+loop_works Down memory address result works =
+    twice (is_some (number_in (register_in memory address Named)))
+    (Computes (OfOne (counted Down) Named) memory address result) (result ≡ Err AlphaData) works

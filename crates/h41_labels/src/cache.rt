@@ -12,8 +12,10 @@ ghost use Rattle.h41_ram.specs.RegisterMap.{RegisterMap, is_sound};
 use crate::search::{KeptAnswer, Search};
 use arrayvec::ArrayVec;
 use h41_codes::{Parameter, Text};
-use h41_program::{global, local};
+use h41_program::global;
+use h41_program::laws::{lists_are_determined, one_list};
 use h41_ram::Ram;
+use h41_walk::local;
 use std::marker::Model;
 
 /// The most answers that the label cache stores, 64. The number is this project's choice.
@@ -59,7 +61,7 @@ impl LabelCache {
 
     /// Returns the position (a byte of program memory, counted from 0) of the local label that a search for `LBL n`
     /// from the position `at` finds, or `None` if there is no such label. n is the number of `label`. The answer is the
-    /// cached one if there is one. Otherwise it is that of `h41_program::local`, and the cache stores it. Memory must
+    /// cached one if there is one. Otherwise it is that of `h41_walk::local`, and the cache stores it. Memory must
     /// be sound.
     pub fn local<const REGS: usize>(
         &mut self,
@@ -196,6 +198,8 @@ fn found<const REGS: usize>(ram: &Ram<REGS>, search: &Search) -> Option<u16>
     requires { IsTrue (is_sound ram.now.registers) }
     ensures { Finds ram.now.registers search.now result }
 {
+    one_list();
+    lists_are_determined();
     match search {
         Search::Local(at, label) => local(ram, *at, *label),
         Search::Global(name) => global(ram, name.characters()),

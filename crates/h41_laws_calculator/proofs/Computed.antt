@@ -23,11 +23,15 @@ use Rattle.h41_show.specs.DisplayFormat.{format_of}
 use Rattle.h41_rows.specs.Places.{RowPlace, amount_in, are_numbers, register_in}
 use Rattle.h41_rows.specs.RowLaws.{ValuesAreDetermined}
 use Rattle.h41_rows.specs.Rows.{places_in_value}
-use Rattle.h41_rows.specs.Counters.{number_after}
-use Rattle.h41_rows.specs.Values.{Value, IsValue, IsRegisterOf, Kept, Computes, places_of, sign_of_value, unit_of}
-use Rattle.h41_rows.specs.Values as values
+use Rattle.h41_rows.specs.Counters.{Up, Down, number_after}
+use Rattle.h41_rows.specs.Values.{Value, Given, Written, OfOne, OfTwo, IsOfOne, IsOfTwo, IsValue, IsRegisterOf, Kept, Computes, places_of}
+use Rattle.h41_rows.specs.Values.{sign_of_value, unit_of}
 use Rattle.h41_rows.specs.declared.fault.LineFault.{LineFault}
 use Rattle.h41_rows.specs.declared.fault.LineFault.TheVariants.{AlphaData, DataError, OutOfRange}
+use Rattle.h41_rows.specs.declared.values.ValueOfOne.{ValueOfOne}
+use Rattle.h41_rows.specs.declared.values.ValueOfOne.TheVariants as ones
+use Rattle.h41_rows.specs.declared.values.ValueOfTwo.{ValueOfTwo}
+use Rattle.h41_rows.specs.declared.values.ValueOfTwo.TheVariants as twos
 use Rattle.h41_laws_words.specs.DecimalAnswers.{DecimalHasOneRegister, FractionHasOneNearest, HoldsNumber, ModuloHasOneNearest}
 use Rattle.h41_laws_words.specs.DecimalAnswers.{NumberHasOneFraction, NumberHasOneInteger, NumberHasOneOfSteps, QuotientHasOneNearest}
 use Rattle.h41_laws_words.specs.DecimalAnswers.{RegisterHoldsDecimal, RootHasOneNearest}
@@ -61,43 +65,53 @@ module _ (nearest : FractionHasOneNearest) (root : RootHasOneNearest) (quotient 
       let held = register_in memory named place in
       decimal_of (worth (holding_of held)) (λ number is. decimal held number (sym (worth-holding_of held) ∙ is))
 
-  is_value : (value : Value) (memory : RegisterMap) (named : ℕ) → Has (IsValue value memory named)
-  is_value (values.Given number) memory named = some _ (nearest number 1 (omega arith))
-  is_value (values.Written characters) memory named =
-      let found = line characters in
-      record { answer = Ok found.answer; right = found.right }
-  is_value (values.Sum a b) memory named = some _ (nearest (amount_in memory named a +ℤ amount_in memory named b) 1 (omega arith))
-  is_value (values.Difference a b) memory named = some _ (nearest (amount_in memory named a -ℤ amount_in memory named b) 1 (omega arith))
-  is_value (values.Product a b) memory named =
-      some _ (nearest (amount_in memory named a *ℤ amount_in memory named b) one (ten_pow_pos 108))
-  is_value (values.Quotient a b) memory named = some _ (quotient (amount_in memory named a) (amount_in memory named b))
-  is_value (values.Remainder a b) memory named =
-      let y = decimal_in_place memory named a in
-      let x = decimal_in_place memory named b in
-      let found = modulo y.answer x.answer in
-      record { answer = found.answer; right = (y.answer, x.answer, y.right, x.right, found.right) }
-  is_value (values.Percentage a b) memory named =
-      some _ (nearest (amount_in memory named a *ℤ amount_in memory named b) (100 * one) (ten_pow_pos 110))
-  is_value (values.Root a) memory named = some _ (root (amount_in memory named a))
-  is_value (values.Inverse a) memory named = some _ (quotient (pos one) (amount_in memory named a))
-  is_value (values.Negative a) memory named = some _ (nearest (neg_ℤ (amount_in memory named a)) 1 (omega arith))
-  is_value (values.AbsoluteValue a) memory named = some _ (nearest (pos (unsigned_abs (amount_in memory named a))) 1 (omega arith))
-  is_value (values.IntegerPart a) memory named =
+  is_of_one : (value : ValueOfOne) (memory : RegisterMap) (named : ℕ) (a : RowPlace)
+      → Has (IsOfOne value (places_of (format_of memory)) (amount_in memory named a))
+  is_of_one ones.Root memory named a = some _ (root (amount_in memory named a))
+  is_of_one ones.Inverse memory named a = some _ (quotient (pos one) (amount_in memory named a))
+  is_of_one ones.Negative memory named a = some _ (nearest (neg_ℤ (amount_in memory named a)) 1 (omega arith))
+  is_of_one ones.AbsoluteValue memory named a = some _ (nearest (pos (unsigned_abs (amount_in memory named a))) 1 (omega arith))
+  is_of_one ones.IntegerPart memory named a =
       let part = integer (amount_in memory named a) in
       let found = nearest part.answer 1 (omega arith) in
       record { answer = found.answer; right = (part.answer, part.right, found.right) }
-  is_value (values.Fraction a) memory named =
+  is_of_one ones.Fraction memory named a =
       let rest = fraction (amount_in memory named a) in
       let found = nearest rest.answer 1 (omega arith) in
       record { answer = found.answer; right = (rest.answer, rest.right, found.right) }
-  is_value (values.Displayed a) memory named =
+  is_of_one ones.Displayed memory named a =
       let number = decimal_in_place memory named a in
       let places = places_of (format_of memory) in
       let found = steps (step_of places number.answer) (units number.answer) (step_pos places number.answer) in
       record { answer = found.answer; right = (number.answer, number.right, found.right) }
-  is_value (values.Unit a) memory named =
+  is_of_one ones.Unit memory named a = some _ (nearest (unit_of (amount_in memory named a)) 1 (omega arith))
+  is_of_one ones.CountedUp memory named a = some _ (nearest (number_after Up (amount_in memory named a)) 1 (omega arith))
+  is_of_one ones.CountedDown memory named a = some _ (nearest (number_after Down (amount_in memory named a)) 1 (omega arith))
+
+  is_of_two : (value : ValueOfTwo) (memory : RegisterMap) (named : ℕ) (a b : RowPlace)
+      → Has (IsOfTwo value (amount_in memory named a) (amount_in memory named b))
+  is_of_two twos.Sum memory named a b = some _ (nearest (amount_in memory named a +ℤ amount_in memory named b) 1 (omega arith))
+  is_of_two twos.Difference memory named a b = some _ (nearest (amount_in memory named a -ℤ amount_in memory named b) 1 (omega arith))
+  is_of_two twos.Product memory named a b =
+      some _ (nearest (amount_in memory named a *ℤ amount_in memory named b) one (ten_pow_pos 108))
+  is_of_two twos.Quotient memory named a b = some _ (quotient (amount_in memory named a) (amount_in memory named b))
+  is_of_two twos.Remainder memory named a b =
+      let y = decimal_in_place memory named a in
+      let x = decimal_in_place memory named b in
+      let found = modulo y.answer x.answer in
+      record { answer = found.answer; right = (y.answer, x.answer, y.right, x.right, found.right) }
+  is_of_two twos.Percentage memory named a b =
+      some _ (nearest (amount_in memory named a *ℤ amount_in memory named b) (100 * one) (ten_pow_pos 110))
+
+  is_value : (value : Value) (memory : RegisterMap) (named : ℕ) → Has (IsValue value memory named)
+  is_value (Given number) memory named = some _ (nearest number 1 (omega arith))
+  is_value (Written characters) memory named =
+      let found = line characters in
+      record { answer = Ok found.answer; right = found.right }
+  is_value (OfOne ones.Unit a) memory named =
       some _ (nearest (option_map_or unit_of (worth (holding_of (register_in memory named a))) (pos 0)) 1 (omega arith))
-  is_value (values.Counted way a) memory named = some _ (nearest (number_after way (amount_in memory named a)) 1 (omega arith))
+  is_value (OfOne value a) memory named = is_of_one value memory named a
+  is_value (OfTwo value a b) memory named = is_of_two value memory named a b
 
   -- The register of an answer.
   of_number : (number : Ten) (n : ℤ) → units number ≡ n → Has (λ (result : Result (List ℕ) LineFault). IsOkAnd result (IsRegisterOf n))

@@ -20,7 +20,7 @@ use Rattle.h41_program.proofs.NewLines.{inserted_begins, inserted_keeps, replace
 use Rattle.h41_program.specs.Edits.{EditGives, Edits, count_before, with_inserted, with_replaced}
 use Rattle.h41_program.specs.ProgramBytes.{final_position, program_bytes}
 use Rattle.h41_program.specs.ProgramLaws.{IsInner, OneList}
-use Rattle.h41_program.specs.ProgramLines.{FirstFrom}
+use Rattle.h41_program.specs.FirstLines.{FirstFrom}
 use Rattle.h41_program.specs.declared.listed_line.ListedLine.{ListedLine}
 use Rattle.h41_program.specs.declared.refusal.ProgramRefusal.{ProgramRefusal}
 use Rattle.h41_program.specs.declared.refusal.ProgramRefusal.TheVariants.{BrokenProgram}

@@ -2,7 +2,6 @@
 pub mod NumberTexts
 pub mod Computed
 -- programs
-pub mod Begun
 pub mod Listed
 pub mod Placed
 pub mod ProgramsChanged

@@ -2,7 +2,8 @@
 use Rattle.std.proofs.Common.{ℕ, Bool, List, refl}
 use Rattle.h41_codes.specs.declared.line.Line.{Line}
 use Rattle.h41_program.specs.ProgramLaws.{EachIsListed, OneList, ReadIsDetermined}
-use Rattle.h41_program.specs.ProgramLines.{AnswersOf, ReadsTo}
+use Rattle.h41_program.specs.FirstLines.{ReadsTo}
+use Rattle.h41_program.specs.ProgramLines.{AnswersOf}
 use Rattle.h41_program.specs.SearchLaws.{AnswersAreDetermined, ProgramIsDetermined}
 use Rattle.h41_program.specs.Searches.{AnswersProgram, start_in, up_to_end}
 use Rattle.h41_laws_words.proofs.Answering.{Has}

@@ -14,12 +14,13 @@ use Rattle.h41_program.specs.Lines.{is_final_end}
 use Rattle.h41_program.specs.Numbering.{before_in, number_in}
 use Rattle.h41_program.specs.ProgramBytes.{final_position, program_bytes}
 use Rattle.h41_program.specs.ProgramLaws.{EachHasFirst, EachIsListed, FirstIsDetermined, OneList, ReadIsDetermined}
-use Rattle.h41_program.specs.ProgramLines.{AnswersFirst, AnswersNext, FirstFrom, HasNoLine, PositionBehind, PositionFrom, behind}
+use Rattle.h41_program.specs.FirstLines.{FirstFrom, behind}
+use Rattle.h41_program.specs.ProgramLines.{AnswersFirst, AnswersNext, HasNoLine, PositionBehind, PositionFrom}
 use Rattle.h41_program.specs.Searches.{AnswersLocal, AnswersProgram, end_in, label_in, position_of, start_in, up_to_end}
 use Rattle.h41_program.specs.declared.listed_line.ListedLine.{ListedLine}
 use Rattle.h41_program.specs.declared.refusal.ProgramRefusal.TheVariants.{BrokenProgram}
 use Rattle.h41_laws_words.proofs.Answering.{Has}
-use Rattle.h41_laws_calculator.proofs.Begun.{start_some}
+use Rattle.h41_positions.proofs.Begun.{start_some}
 use Rattle.h41_laws_calculator.specs.ProgramAnswers.{PositionHasOne}
 
 -- If there is an answer and there are not two, there is exactly one.

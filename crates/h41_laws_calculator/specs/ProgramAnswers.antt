@@ -2,7 +2,8 @@
 use Rattle.std.specs.Prelude.{ℕ, List, Bool}
 use Rattle.h41_codes.specs.declared.line.Line.{Line}
 use Rattle.h41_ram.specs.RegisterMap.{RegisterMap}
-use Rattle.h41_program.specs.ProgramLines.{AnswersOf, ReadsTo}
+use Rattle.h41_program.specs.FirstLines.{ReadsTo}
+use Rattle.h41_program.specs.ProgramLines.{AnswersOf}
 use Rattle.h41_program.specs.Searches.{AnswersProgram}
 use Rattle.h41_program.specs.declared.listed_line.ListedLine.{ListedLine}
 use Rattle.h41_pages.specs.PageMap.{PageMap}

@@ -4,7 +4,7 @@ use Rattle.h41_codes.specs.declared.line.Line.{Line}
 use Rattle.h41_ram.specs.RegisterMap.{RegisterMap}
 use Rattle.h41_program.specs.Edits.{AnswersChanged, EditGives, LoadGives}
 use Rattle.h41_program.specs.ProgramBytes.{final_position, program_bytes}
-use Rattle.h41_program.specs.ProgramLines.{FirstFrom}
+use Rattle.h41_program.specs.FirstLines.{FirstFrom}
 use Rattle.h41_program.specs.declared.listed_line.ListedLine.{ListedLine}
 use Rattle.h41_laws_words.specs.HasOne.{HasOne}
 

@@ -21,7 +21,8 @@ use Rattle.h41_plain_numbers.specs.private.PlainReading.{EndsNowhere, EndsPlain,
 use Rattle.h41_plain_numbers.proofs.PlainTexts.{codes_more, count_taken, digit_more, digits_counted, places_most, plain_code}
 use Rattle.h41_plain_numbers.proofs.PlainTexts.{plain_number_is}
 use Rattle.h41_program.specs.ProgramBytes.{byte_count, final_position, program_byte, program_bytes}
-use Rattle.h41_program.specs.ProgramLines.{HasFirst, PositionFrom, line_bytes}
+use Rattle.h41_program.specs.FirstLines.{line_bytes}
+use Rattle.h41_program.specs.ProgramLines.{HasFirst, PositionFrom}
 use Rattle.h41_program.specs.private.Reading.{BeginsSized, bytes_seen}
 use Rattle.h41_program.proofs.FirstLines.{line_bytes-below}
 use Rattle.h41_program.proofs.Memory.{Looked, looked_first}

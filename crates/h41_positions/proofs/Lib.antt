@@ -1,5 +1,5 @@
+pub mod Begun
 pub mod OneNext
 pub mod PageAnswers
 pub mod PageStarts
-pub mod PageWalks
 pub mod PositionsFound

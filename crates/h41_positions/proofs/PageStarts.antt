@@ -4,18 +4,19 @@ use Rattle.std.proofs.Common.{inl, inr}
 use Rattle.std.specs.Prelude.{is_some, slice_index}
 use Rattle.std.specs.Option.{option_or}
 use Rattle.std.proofs.lemmas.Bool.{cases_lt, true≢false}
-use Rattle.h41_positions.specs.PageLines.{AnswersLabel, AnswersOwn, HasNoLine, IsAmong, LinesIn, Reaches, StartsAt, is_page_end}
-use Rattle.h41_positions.specs.private.PageWalks.{AnswersAll, CodeHasFirst}
+use Rattle.h41_positions.specs.PageLines.{AnswersLabel, HasNoLine, IsAmong, LinesIn, Reaches, StartsAt, is_page_end}
 use Rattle.h41_program.specs.Numbering.{number_in}
 use Rattle.h41_program.specs.ProgramLaws.{EachIsListed}
 use Rattle.h41_program.specs.Searches.{label_in, position_of}
-use Rattle.h41_program.proofs.SearchSteps.{some_or}
 use Rattle.h41_program.specs.declared.listed_line.ListedLine.{ListedLine}
 use Rattle.h41_program.specs.declared.reading.Found.{Found}
+use Rattle.h41_program.specs.Sources.{HasFirst, bytes_source}
+use Rattle.h41_walk.specs.Searches.{AnswersProgram, Otherwise, label_position}
+use Rattle.h41_walk.specs.Searches as walk
 
 -- A list that contains the line of an offset reaches the offset.
 pub found_reaches : (code : List ℕ) (at begin : ℕ) (first : Found) (lines : List ListedLine)
-    → CodeHasFirst code at first → begin ≤ at → LinesIn code begin lines → is_some (number_in first.listed.position lines) ≡ true
+    → HasFirst (bytes_source code) at first → begin ≤ at → LinesIn code begin lines → is_some (number_in first.listed.position lines) ≡ true
     → Reaches code at begin
 found_reaches code at begin first lines is before from has = record {
   before = before;
@@ -28,7 +29,7 @@ found_reaches code at begin first lines is before from has = record {
 
 -- A list that does not contain it does not reach the offset.
 pub lost_reaches : (code : List ℕ) (at begin : ℕ) (first : Found)
-    → CodeHasFirst code at first
+    → HasFirst (bytes_source code) at first
     → ((lines : List ListedLine) → LinesIn code begin lines → false ≡ is_some (number_in first.listed.position lines))
     → Reaches code at begin → ⊥
 lost_reaches code at begin first is lost reaches =
@@ -112,44 +113,38 @@ module _ (code begins : List ℕ) (at count least : ℕ) (all : length begins �
         refl,
       )
 
--- The answer for the program of an offset.
-pub of_own : {A : Type 0} (answer : List ListedLine → A) (code begins : List ℕ) (at start : ℕ) (result : A) → EachIsListed
-    → StartsAt code begins at start → AnswersAll answer code start result → AnswersOwn answer code begins at result
-of_own answer code begins at start result lists starts asked =
-    let all = lists is_page_end code (length code) start in
-    record { start = start; own = all.0; starts = starts; program = all.1; is = asked all.0 all.1 }
-
+-- An answer for a label is the one for the lines from the program's start.
 none_or : (first second : Option ListedLine) (found : Option ℕ) → position_of first ≡ None → found ≡ position_of second
     → found ≡ position_of (option_or first second)
 none_or None second found none is = is
 none_or (Some listed) second found none is = cc
 
--- The answer for a label.
-module _ (code begins : List ℕ) (at n start : ℕ) (lists : EachIsListed) (starts : StartsAt code begins at start) where
-  labelled : (found : Option ℕ)
-      → ((onward own : List ListedLine) → LinesIn code at onward → LinesIn code start own
-      → found ≡ position_of (option_or (label_in n onward) (label_in n own)))
+module _ (code begins : List ℕ) (at n : ℕ) (lists : EachIsListed) (some : (start : ℕ) × StartsAt code begins at start) where
+  by_label : (onward : List ListedLine) → LinesIn code at onward → (first : Option ListedLine) → first ≡ label_in n onward
+      → (found : Option ℕ)
+      → Otherwise (position_of first) (AnswersProgram (label_position n) (bytes_source code) (StartsAt code begins) at) found
       → AnswersLabel code begins at n found
-  labelled found is =
-      let onward = lists is_page_end code (length code) at in
-      let own = lists is_page_end code (length code) start in
+  by_label onward from (Some listed) here found is =
+      let own = lists is_page_end code (length code) some.0 in
       record {
-        start = start;
-        onward = onward.0;
+        start = some.0;
+        onward = onward;
         own = own.0;
-        starts = starts;
-        from = onward.1;
+        starts = some.1;
+        from = from;
         program = own.1;
-        is = is onward.0 own.0 onward.1 own.1;
+        is = is ∙ ap (λ (o : Option ListedLine). position_of (option_or o (label_in n own.0))) here;
       }
+  by_label onward from None none found is = record {
+    start = is.start;
+    onward = onward;
+    own = is.own;
+    starts = is.starts;
+    from = from;
+    program = is.program;
+    is = none_or (label_in n onward) (label_in n is.own) found (sym (ap position_of none)) is.is;
+  }
 
-  pub label_onward : (found : ℕ) → AnswersAll (λ (lines : List ListedLine). position_of (label_in n lines)) code at (Some found)
-      → AnswersLabel code begins at n (Some found)
-  label_onward found asked = labelled (Some found) (λ onward own from program.
-      some_or (label_in n onward) (label_in n own) found (sym (asked onward from)))
-
-  pub label_own : (found : Option ℕ) → AnswersAll (λ (lines : List ListedLine). position_of (label_in n lines)) code at None
-      → AnswersAll (λ (lines : List ListedLine). position_of (label_in n lines)) code start found
+  pub labelled : (found : Option ℕ) → walk.AnswersLabel n (bytes_source code) (StartsAt code begins) at found
       → AnswersLabel code begins at n found
-  label_own found none asked = labelled found (λ onward own from program.
-      none_or (label_in n onward) (label_in n own) found (sym (none onward from)) (asked own program))
+  labelled found is = by_label is.0 is.1 (label_in n is.0) refl found is.2

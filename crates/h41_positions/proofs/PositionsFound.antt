@@ -14,7 +14,8 @@ use Rattle.h41_positions.specs.declared.position.Position.TheVariants.{Memory, P
 use Rattle.h41_program.specs.Numbering.{before_in, number_in}
 use Rattle.h41_program.specs.ProgramBytes.{final_position, program_bytes}
 use Rattle.h41_program.specs.ProgramLaws.{EachHasFirst, FirstIsDetermined, ReadIsDetermined}
-use Rattle.h41_program.specs.ProgramLines.{AnswersFirst, AnswersNext, behind}
+use Rattle.h41_program.specs.FirstLines.{behind}
+use Rattle.h41_program.specs.ProgramLines.{AnswersFirst, AnswersNext}
 use Rattle.h41_program.specs.SearchLaws.{AnswersAreDetermined, LineIsDetermined, LocalIsDetermined, NextIsDetermined, ProgramIsDetermined}
 use Rattle.h41_program.specs.Searches.{end_in, label_in, position_of, start_in}
 use Rattle.h41_program.specs.declared.listed_line.ListedLine.{ListedLine}

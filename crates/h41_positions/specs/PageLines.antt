@@ -1,59 +1,53 @@
 -- The lines of a page are read from its keystroke code, up to an END or .END., which both end a
 -- program there, to the end of the page, or to bytes that are no line. The start of a page's
 -- program, and that a position at nulls has the line after them, are this project's choices.
-use Rattle.std.specs.Prelude.{◌≡◌, ◌⊎◌, ℕ, ◌+◌, ◌*◌, ◌%◌, ◌<◌, ◌≤◌, Bool, IsTrue, MatchBool, ◌||◌}
-use Rattle.std.specs.Prelude.{List, length, slice_index, Option, is_some, Result, Ok, Err}
+use Rattle.std.specs.Prelude.{◌≡◌, ◌⊎◌, ℕ, ◌+◌, ◌*◌, ◌%◌, ◌<◌, ◌≤◌, Bool, IsTrue}
+use Rattle.std.specs.Prelude.{List, length, slice_index, Option, is_some, Result}
 use Rattle.std.specs.Option.{option_or}
 use Rattle.h41_codes.specs.declared.line.Line.{Line}
 use Rattle.h41_pages.specs.Addresses.{page_size}
-use Rattle.h41_program.specs.Lines.{is_end, is_final_end}
 use Rattle.h41_program.specs.Numbering.{number_in}
-use Rattle.h41_program.specs.ProgramLines.{FirstFrom, NoneFrom, ReadsTo, behind}
 use Rattle.h41_program.specs.Searches.{label_in, position_of}
 use Rattle.h41_program.specs.declared.listed_line.ListedLine.{ListedLine}
 use Rattle.h41_program.specs.declared.refusal.ProgramRefusal.{ProgramRefusal}
-use Rattle.h41_program.specs.declared.refusal.ProgramRefusal.TheVariants.{BrokenProgram}
+use Rattle.h41_program.specs.Sources.{AnswersNext, PositionBehind, PositionFrom, ProgramFrom}
+use Rattle.h41_program.specs.Sources.{bytes_source, is_program_end}
+use Rattle.h41_program.specs.Sources as sources
+use Rattle.h41_walk.specs.Searches.{AnswersProgram}
 
 -- The lines that end a program of a page.
 abbrev pub is_page_end : Line → Bool
-is_page_end line = is_end line || is_final_end line
+is_page_end line = is_program_end line
 
 -- The first line of keystroke code from an offset on.
 abbrev pub IsFirstLine : List ℕ → ℕ → ListedLine → Type 0
-IsFirstLine code at first = FirstFrom code (length code) at first
+IsFirstLine code at first = sources.IsFirstLine (bytes_source code) at first
 
 -- There is no line from an offset on.
 abbrev pub HasNoLine : List ℕ → ℕ → Type 0
-HasNoLine code at = NoneFrom code (length code) at
+HasNoLine code at = sources.HasNoLine (bytes_source code) at
 
 -- All lines from an offset on, to the end of their program.
 abbrev pub LinesIn : List ℕ → ℕ → List ListedLine → Type 0
-LinesIn code at lines = ReadsTo is_page_end code (length code) at lines
+LinesIn code at lines = ProgramFrom (bytes_source code) at lines
 
 -- The answer is the first line from an offset on, or BrokenProgram (14) if there is none.
 abbrev pub AnswersLine : List ℕ → ℕ → Result ListedLine ProgramRefusal → Type 0
-AnswersLine code at (Ok first) = IsFirstLine code at first
-AnswersLine code at (Err refusal) = (refusal ≡ BrokenProgram) × HasNoLine code at
+AnswersLine code at answer = sources.AnswersLine (bytes_source code) at answer
 
 -- The offset of the first line from an offset on, or that offset if no line follows.
 abbrev pub OffsetFrom : List ℕ → ℕ → ℕ → Type 0
-OffsetFrom code at offset =
-    ((first : ListedLine) × IsFirstLine code at first × (offset ≡ first.position))
-    ⊎ (HasNoLine code at × (offset ≡ at))
+OffsetFrom code at offset = PositionFrom (bytes_source code) at offset
 
 -- The offset of the line after a line, or the offset just after that line if no line follows or if
 -- it ends its program.
 abbrev pub OffsetBehind : List ℕ → ListedLine → ℕ → Type 0
-OffsetBehind code first offset =
-    MatchBool (is_page_end first.line) (offset ≡ behind first)
-    (OffsetFrom code (behind first) offset)
+OffsetBehind code first offset = PositionBehind (bytes_source code) first offset
 
 -- The answer is the offset after the first line from an offset on, or BrokenProgram (14) if there
 -- is none.
 abbrev pub AnswersOffset : List ℕ → ℕ → Result ℕ ProgramRefusal → Type 0
-AnswersOffset code at (Ok offset) =
-    (first : ListedLine) × IsFirstLine code at first × OffsetBehind code first offset
-AnswersOffset code at (Err refusal) = (refusal ≡ BrokenProgram) × HasNoLine code at
+AnswersOffset code at answer = AnswersNext (bytes_source code) at answer
 
 -- A function of the page begins at or before an offset, and the lines from there on contain the
 -- line at the offset.
@@ -87,13 +81,9 @@ StartsAt code begins at start =
     IsLeast code begins at start ⊎ (NoneReaches code begins at × (start ≡ at))
 
 -- The answer for the program of an offset is that for the lines from the program's start on.
-pub record AnswersOwn {A : Type 0} (answer : List ListedLine → A)
-    (code begins : List ℕ) (at : ℕ) (result : A) : Type 0 where
-  pub start : ℕ
-  pub own : List ListedLine
-  pub starts : StartsAt code begins at start
-  pub program : LinesIn code start own
-  pub is : result ≡ answer own
+abbrev pub AnswersOwn : {A : Type 0} → (List ListedLine → A) → List ℕ → List ℕ → ℕ → A → Type 0
+AnswersOwn answer code begins at result =
+    AnswersProgram answer (bytes_source code) (StartsAt code begins) at result
 
 -- The offset of LBL n for a search from an offset: the first one from there on, otherwise the first
 -- one of the program.

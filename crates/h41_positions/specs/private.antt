@@ -1,4 +1,3 @@
 -- Definitions for the contracts of this crate's private functions. No public contract and no law
 -- uses them.
 pub mod PagePlaces
-pub mod PageWalks

@@ -4,8 +4,7 @@
 
 mod focal;
 pub mod laws;
-mod page_lines;
-mod page_programs;
+mod page_code;
 mod position;
 mod positions;
 

@@ -10,12 +10,14 @@ ghost use Rattle.h41_positions.specs.declared.position.Position.TheVariants.{Mem
 ghost use Rattle.h41_positions.specs.private.PagePlaces.{InPageAndNext};
 ghost use Rattle.h41_ram.specs.RegisterMap.{is_sound};
 
+use crate::page_code::PageCode;
 use crate::position::{PlacedLine, Position};
-use crate::{page_lines, page_programs};
 use h41_codes::{Line, Parameter, ShortLine};
 use h41_pages::{PAGE_WORDS, Pages};
 use h41_program::ProgramRefusal;
+use h41_program::laws::{each_is_listed, lists_are_determined, one_list};
 use h41_ram::Ram;
+use h41_walk::Programs;
 
 /// The number of words in a page, 4096.
 const WORDS: u16 = PAGE_WORDS as u16;
@@ -76,7 +78,7 @@ pub fn line_at<const REGS: usize>(
     ensures { LineAt pages.now ram.now.registers at result }
 {
     match at {
-        Position::Memory(at) => match h41_program::line_at(ram, at) {
+        Position::Memory(at) => match h41_walk::line_at(ram, at) {
             Ok(listed) => Ok(PlacedLine {
                 position: Position::Memory(listed.position),
                 line: listed.line,
@@ -93,7 +95,7 @@ pub fn line_in_page(pages: &Pages, address: u16) -> Result<PlacedLine, ProgramRe
     ensures { LineInPage pages.now address result }
 {
     let (page, offset) = place_of(address);
-    match page_lines::line_at(pages.code(page), offset) {
+    match h41_walk::line_at(&PageCode::of(pages, page), offset) {
         Ok(listed) => Ok(PlacedLine {
             position: in_page(page, listed.position),
             line: listed.line,
@@ -115,13 +117,13 @@ pub fn next<const REGS: usize>(
     ensures { NextAt pages.now ram.now.registers at result }
 {
     match at {
-        Position::Memory(at) => match h41_program::next(ram, at) {
+        Position::Memory(at) => match h41_walk::next(ram, at) {
             Ok(byte) => Ok(Position::Memory(byte)),
             Err(refusal) => Err(refusal),
         },
         Position::Page(address) => {
             let (page, offset) = place_of(address);
-            match page_lines::next(pages.code(page), offset) {
+            match h41_walk::next(&PageCode::of(pages, page), offset) {
                 Ok(behind) => Ok(in_page(page, behind)),
                 Err(refusal) => Err(refusal),
             }
@@ -141,7 +143,7 @@ pub fn line_and_next<const REGS: usize>(
     ensures { LineAndNext pages.now ram.now.registers at result }
 {
     match at {
-        Position::Memory(at) => match h41_program::line_and_next(ram, at) {
+        Position::Memory(at) => match h41_walk::line_and_next(ram, at) {
             Ok((line, byte)) => Ok((line, Position::Memory(byte))),
             Err(refusal) => Err(refusal),
         },
@@ -156,7 +158,7 @@ fn in_page_and_next(pages: &Pages, address: u16) -> Result<(Line, Position), Pro
     ensures { InPageAndNext pages.now address result }
 {
     let (page, offset) = place_of(address);
-    match page_lines::line_and_next(pages.code(page), offset) {
+    match h41_walk::line_and_next(&PageCode::of(pages, page), offset) {
         Ok((line, behind)) => Ok((line, in_page(page, behind))),
         Err(refusal) => Err(refusal),
     }
@@ -196,11 +198,7 @@ pub fn start_of<const REGS: usize>(ram: &Ram<REGS>, pages: &Pages, at: Position)
         Position::Memory(at) => Position::Memory(h41_program::start_of(ram, at)),
         Position::Page(address) => {
             let (page, offset) = place_of(address);
-            let begins = pages.keystroke_offsets(page);
-            in_page(
-                page,
-                page_programs::start_of(pages.code(page), begins.as_slice(), offset),
-            )
+            in_page(page, PageCode::of(pages, page).start_of(offset))
         }
     }
 }
@@ -217,12 +215,17 @@ pub fn local<const REGS: usize>(
     requires { IsTrue (is_sound ram.now.registers) }
     ensures { LocalFrom label pages.now ram.now.registers at result }
 {
+    each_is_listed();
+    lists_are_determined();
+    one_list();
     match at {
-        Position::Memory(at) => byte_found(h41_program::local(ram, at, label)),
+        Position::Memory(at) => {
+            let byte = h41_walk::local(ram, at, label);
+            byte_found(byte)
+        }
         Position::Page(address) => {
             let (page, offset) = place_of(address);
-            let begins = pages.keystroke_offsets(page);
-            let found = page_programs::local(pages.code(page), begins.as_slice(), offset, label);
+            let found = h41_walk::local(&PageCode::of(pages, page), offset, label);
             offset_found(page, found)
         }
     }
@@ -235,12 +238,16 @@ pub fn end_of<const REGS: usize>(ram: &Ram<REGS>, pages: &Pages, at: Position) -
     requires { IsTrue (is_sound ram.now.registers) }
     ensures { EndOf pages.now ram.now.registers at result }
 {
+    lists_are_determined();
+    one_list();
     match at {
-        Position::Memory(at) => byte_found(h41_program::end_of(ram, at)),
+        Position::Memory(at) => {
+            let byte = h41_walk::end_of(ram, at);
+            byte_found(byte)
+        }
         Position::Page(address) => {
             let (page, offset) = place_of(address);
-            let begins = pages.keystroke_offsets(page);
-            let found = page_programs::end_of(pages.code(page), begins.as_slice(), offset);
+            let found = h41_walk::end_of(&PageCode::of(pages, page), offset);
             offset_found(page, found)
         }
     }
@@ -256,12 +263,13 @@ pub fn line_number<const REGS: usize>(
     requires { IsTrue (is_sound ram.now.registers) }
     ensures { NumberAt pages.now ram.now.registers position result }
 {
+    lists_are_determined();
+    one_list();
     match position {
-        Position::Memory(byte) => h41_program::line_number(ram, byte),
+        Position::Memory(byte) => h41_walk::line_number(ram, byte),
         Position::Page(address) => {
             let (page, offset) = place_of(address);
-            let begins = pages.keystroke_offsets(page);
-            page_programs::line_number(pages.code(page), begins.as_slice(), offset)
+            h41_walk::line_number(&PageCode::of(pages, page), offset)
         }
     }
 }
@@ -277,12 +285,16 @@ pub fn line_before<const REGS: usize>(
     requires { IsTrue (is_sound ram.now.registers) }
     ensures { LineBefore pages.now ram.now.registers position result }
 {
+    lists_are_determined();
+    one_list();
     match position {
-        Position::Memory(byte) => byte_found(h41_program::line_before(ram, byte)),
+        Position::Memory(at) => {
+            let byte = h41_walk::line_before(ram, at);
+            byte_found(byte)
+        }
         Position::Page(address) => {
             let (page, offset) = place_of(address);
-            let begins = pages.keystroke_offsets(page);
-            let found = page_programs::line_before(pages.code(page), begins.as_slice(), offset);
+            let found = h41_walk::line_before(&PageCode::of(pages, page), offset);
             offset_found(page, found)
         }
     }

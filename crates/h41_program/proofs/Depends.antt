@@ -11,7 +11,8 @@ use Rattle.h41_program.specs.Dependence.{AnswersDepend, SoundnessDepends, ListsD
 use Rattle.h41_program.specs.Dependence.{LineDepends, NextDepends, LocalDepends, ProgramDepends}
 use Rattle.h41_program.specs.Lines.{is_final_end as ends_list}
 use Rattle.h41_program.specs.ProgramBytes.{byte_count, program_byte, program_bytes, final_position}
-use Rattle.h41_program.specs.ProgramLines.{behind, FirstFrom, IsFirst, NoneFrom, Reads}
+use Rattle.h41_program.specs.FirstLines.{behind, FirstFrom, IsFirst, NoneFrom}
+use Rattle.h41_program.specs.ProgramLines.{Reads}
 use Rattle.h41_program.specs.Searches.{start_in}
 use Rattle.h41_program.proofs.Addresses.{sound_by}
 use Rattle.h41_program.proofs.Sound.{bounds, constant, ends}

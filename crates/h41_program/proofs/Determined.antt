@@ -14,7 +14,7 @@ use Rattle.h41_program.specs.Edits.{LoadsBehind}
 use Rattle.h41_program.specs.Lines.{is_final_end}
 use Rattle.h41_program.specs.ProgramBytes.{program_bytes, final_position}
 use Rattle.h41_program.specs.ProgramLaws.{EditsAreDetermined, FirstIsDetermined, ListsAreDetermined, LoadsAreDetermined}
-use Rattle.h41_program.specs.ProgramLines.{line_bytes, FirstFrom, ReadsTo, behind}
+use Rattle.h41_program.specs.FirstLines.{line_bytes, FirstFrom, ReadsTo, behind}
 use Rattle.h41_program.proofs.FirstLines.{first_inside, first_byte, only_null}
 use Rattle.h41_program.proofs.Windows.{begins_least}
 

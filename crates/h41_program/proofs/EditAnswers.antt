@@ -23,7 +23,8 @@ use Rattle.h41_program.specs.Edits.{count_before, edit_outcome, has_line_at, lin
 use Rattle.h41_program.specs.private.EditSteps.{Counts, lines_of_change, listed_of}
 use Rattle.h41_program.specs.ProgramLaws.{IsInner}
 use Rattle.h41_program.specs.ProgramBytes.{program_bytes, final_position}
-use Rattle.h41_program.specs.ProgramLines.{FirstFrom, LinesFrom}
+use Rattle.h41_program.specs.FirstLines.{FirstFrom}
+use Rattle.h41_program.specs.ProgramLines.{LinesFrom}
 use Rattle.h41_program.specs.Rewriting.{HasOutcome}
 use Rattle.h41_program.specs.Searches.{position_of}
 use Rattle.h41_program.proofs.Determined.{first_determined, lists_determined}

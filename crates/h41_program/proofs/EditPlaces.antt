@@ -9,7 +9,8 @@ use Rattle.h41_program.specs.declared.editing.InFront.TheVariants.{Start}
 use Rattle.h41_program.specs.declared.listed_line.ListedLine.{ListedLine}
 use Rattle.h41_program.specs.Edits.{count_before, front_behind, position_in_front}
 use Rattle.h41_program.specs.Lines.{is_final_end}
-use Rattle.h41_program.specs.ProgramLines.{FirstFrom, IsFirst, Reads, behind}
+use Rattle.h41_program.specs.FirstLines.{FirstFrom, IsFirst, behind}
+use Rattle.h41_program.specs.ProgramLines.{Reads}
 use Rattle.h41_program.proofs.Walks.{last_rest, more_rest}
 
 one_add : (n : ℕ) → 1 + n ≡ suc n

@@ -20,7 +20,8 @@ use Rattle.h41_program.specs.private.EditSteps.{PacksChanged, Writes, lines_of_c
 use Rattle.h41_program.specs.Lines.{is_final_end}
 use Rattle.h41_program.specs.private.Packers.{Packs, line_if}
 use Rattle.h41_program.specs.ProgramBytes.{final_position, program_bytes}
-use Rattle.h41_program.specs.ProgramLines.{AnswersFirst, FirstFrom, IsFirst, Reads, NoneFrom}
+use Rattle.h41_program.specs.FirstLines.{FirstFrom, IsFirst, NoneFrom}
+use Rattle.h41_program.specs.ProgramLines.{HasNoLine, Reads}
 use Rattle.h41_program.specs.Rewriting.{HasOutcome, with_program_lines}
 use Rattle.h41_program.proofs.Walks.{UpTo, ends_none, ends_final, before_end-none, before_end-final}
 use Rattle.h41_program.proofs.Cases.{not_both}
@@ -165,13 +166,8 @@ changed_refused old change lines result refusal false matches err = (same_refusa
 
 -- The list is changed, or not.
 module _ (old : RegisterMap) (change : ℕ → ListedLine → List Line) (at : ℕ) where
-  pub edit_none : (result : Result ℕ ProgramRefusal) (refusal : ProgramRefusal) → AnswersFirst old at (Err refusal) → result ≡ Err refusal
-      → Edits old old change at (without_answer result)
-  edit_none result refusal none is = (
-    Err BrokenProgram,
-    inr (none.1, refl),
-    (ap without_answer is ∙ ap (λ (r : ProgramRefusal). Err r) none.0, refl),
-  )
+  pub edit_none : HasNoLine old at → Edits old old change at (Err BrokenProgram)
+  edit_none none = (Err BrokenProgram, inr (none, refl), (refl, refl))
 
   module _ (first : ListedLine) (stands : FirstFrom (program_bytes old) (final_position old) at first)
       (packed : Result Packer ProgramRefusal)

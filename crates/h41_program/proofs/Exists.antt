@@ -12,7 +12,8 @@ use Rattle.h41_program.specs.declared.listed_line.ListedLine.{ListedLine}
 use Rattle.h41_program.specs.Lines.{is_final_end}
 use Rattle.h41_program.specs.ProgramBytes.{program_bytes, final_position}
 use Rattle.h41_program.specs.ProgramLaws.{OneList}
-use Rattle.h41_program.specs.ProgramLines.{line_bytes, FirstFrom, NoneFrom, ReadsTo, LinesFrom, behind}
+use Rattle.h41_program.specs.FirstLines.{line_bytes, FirstFrom, NoneFrom, ReadsTo, behind}
+use Rattle.h41_program.specs.ProgramLines.{LinesFrom}
 use Rattle.h41_program.proofs.Determined.{lists_determined}
 use Rattle.h41_program.proofs.FirstLines.{line_bytes-at, line_bytes-below, first_inside, first_byte, null_begins, null_byte}
 use Rattle.h41_program.proofs.Windows.{begins_count, begins_least}

@@ -11,7 +11,7 @@ use Rattle.h41_codes.proofs.FirstBytes as law
 use Rattle.h41_codes.specs.declared.line.Line.{Line}
 use Rattle.h41_codes.specs.declared.line.Line.TheVariants.{Null}
 use Rattle.h41_program.specs.declared.listed_line.ListedLine.{ListedLine}
-use Rattle.h41_program.specs.ProgramLines.{line_bytes, FirstFrom, behind}
+use Rattle.h41_program.specs.FirstLines.{line_bytes, FirstFrom, behind}
 use Rattle.h41_program.proofs.Windows.{begins_count, begins_least}
 
 -- The three cases of the bytes that a line may take.

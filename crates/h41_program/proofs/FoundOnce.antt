@@ -9,7 +9,8 @@ use Rattle.h41_program.specs.declared.listed_line.ListedLine.{ListedLine}
 use Rattle.h41_program.specs.declared.refusal.ProgramRefusal.{ProgramRefusal}
 use Rattle.h41_program.specs.Lines.{is_final_end}
 use Rattle.h41_program.specs.ProgramBytes.{program_bytes, final_position}
-use Rattle.h41_program.specs.ProgramLines.{FirstFrom, LinesFrom, PositionBehind, PositionFrom, Reads, behind, line_of, next_of}
+use Rattle.h41_program.specs.FirstLines.{FirstFrom, behind}
+use Rattle.h41_program.specs.ProgramLines.{LinesFrom, PositionBehind, PositionFrom, Reads, line_of, next_of}
 use Rattle.h41_program.specs.SearchLaws.{AnswersAreDetermined, LineIsDetermined, LineIsOfList, LocalIsDetermined, NextIsDetermined}
 use Rattle.h41_program.specs.SearchLaws.{NextIsOfList, ProgramIsDetermined}
 use Rattle.h41_program.specs.Searches.{label_in, position_of, start_in, up_to_end}

@@ -7,7 +7,7 @@ use Rattle.h41_codes.specs.ByteGrammar.{spelling, Begins, AnswersLine}
 use Rattle.h41_codes.specs.ByteLaws.{OneLine}
 use Rattle.h41_codes.specs.declared.line.Line.{Line}
 use Rattle.h41_program.specs.declared.listed_line.ListedLine.{ListedLine}
-use Rattle.h41_program.specs.ProgramLines.{line_bytes, FirstFrom}
+use Rattle.h41_program.specs.FirstLines.{line_bytes, FirstFrom}
 use Rattle.h41_program.specs.GivenLines.{BytesHaveFirst, BytesHaveNone}
 use Rattle.h41_program.proofs.FirstLines.{line_bytes-below, line_bytes-at, Passed, stands_there, found_first}
 use Rattle.h41_program.proofs.Memory.{ok_line, no_error}

@@ -15,7 +15,8 @@ use Rattle.h41_program.specs.Edits.{own_line, with_inserted, with_replaced, with
 use Rattle.h41_program.specs.Edits.{without_end}
 use Rattle.h41_program.specs.Lines.{is_end, is_final_end, is_inner}
 use Rattle.h41_program.specs.ProgramLaws.{IsInner}
-use Rattle.h41_program.specs.ProgramLines.{FirstFrom, Reads, behind}
+use Rattle.h41_program.specs.FirstLines.{FirstFrom, behind}
+use Rattle.h41_program.specs.ProgramLines.{Reads}
 use Rattle.h41_program.proofs.Walks.{more_rest, last_rest}
 use Rattle.h41_program.proofs.Cases.{not_empty}
 use Rattle.std.proofs.lemmas.Option.{none-some, same_Some}

@@ -22,7 +22,6 @@ pub mod Memory
 pub mod Moves
 pub mod NewLines
 pub mod NullBytes
-pub mod Numbers
 pub mod Onward
 pub mod Outcomes
 pub mod Packings

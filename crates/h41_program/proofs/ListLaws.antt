@@ -6,7 +6,8 @@ use Rattle.h41_program.specs.declared.listed_line.ListedLine.{ListedLine}
 use Rattle.h41_program.specs.Lines.{is_final_end}
 use Rattle.h41_program.specs.ProgramBytes.{program_bytes, final_position}
 use Rattle.h41_program.specs.ProgramLaws.{GoesOnFromNext, StandsForItsLine}
-use Rattle.h41_program.specs.ProgramLines.{FirstFrom, Reads, behind}
+use Rattle.h41_program.specs.FirstLines.{FirstFrom, behind}
+use Rattle.h41_program.specs.ProgramLines.{Reads}
 use Rattle.h41_program.proofs.Cases.{not_empty}
 
 -- A first line is the first from its own position on.

@@ -16,7 +16,7 @@ use Rattle.h41_program.specs.Lines.{is_end, is_final_end}
 use Rattle.h41_program.specs.private.LoadSteps.{PutsLoaded, listed_option, kept_option}
 use Rattle.h41_program.specs.private.Packers.{Packs}
 use Rattle.h41_program.specs.Packing.{last_line}
-use Rattle.h41_program.specs.ProgramLines.{behind}
+use Rattle.h41_program.specs.FirstLines.{behind}
 use Rattle.h41_program.proofs.Packings.{last_line-more}
 use Rattle.h41_program.proofs.Walks.{UpTo, all_final, up_to_none, up_to_more, before_end-final}
 

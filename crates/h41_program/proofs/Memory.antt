@@ -12,7 +12,8 @@ use Rattle.h41_codes.specs.declared.line.Line.{Line}
 use Rattle.h41_ram.specs.RegisterMap.{RegisterMap, is_sound}
 use Rattle.h41_program.specs.declared.listed_line.ListedLine.{ListedLine}
 use Rattle.h41_program.specs.ProgramBytes.{byte_count, program_byte, program_bytes, final_position}
-use Rattle.h41_program.specs.ProgramLines.{line_bytes, FirstFrom, HasFirst, HasNoLine}
+use Rattle.h41_program.specs.FirstLines.{line_bytes, FirstFrom}
+use Rattle.h41_program.specs.ProgramLines.{HasFirst, HasNoLine}
 use Rattle.h41_program.proofs.FirstLines.{line_bytes-below, line_bytes-at, Passed, stands_there, found_first}
 use Rattle.h41_program.proofs.Sound.{final_byte}
 use Rattle.h41_program.proofs.Windows.{drop-map-range, take-window, begins_count, begins_least, begins_in, begins_out}

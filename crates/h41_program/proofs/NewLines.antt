@@ -9,7 +9,8 @@ use Rattle.h41_codes.specs.declared.line.Line.{Line}
 use Rattle.h41_program.specs.declared.listed_line.ListedLine.{ListedLine}
 use Rattle.h41_program.specs.Edits.{count_before, has_line_at, with_inserted, with_replaced, own_line}
 use Rattle.h41_program.specs.Lines.{is_final_end}
-use Rattle.h41_program.specs.ProgramLines.{FirstFrom, Reads, behind}
+use Rattle.h41_program.specs.FirstLines.{FirstFrom, behind}
+use Rattle.h41_program.specs.ProgramLines.{Reads}
 use Rattle.h41_program.proofs.EditPlaces.{count_cons, none_before}
 use Rattle.h41_program.proofs.ListLaws.{own_reads}
 use Rattle.h41_program.proofs.Walks.{last_rest, more_rest}

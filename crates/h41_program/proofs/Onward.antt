@@ -5,7 +5,8 @@ use Rattle.h41_codes.specs.ByteLaws.{LineOrNone, OneLine}
 use Rattle.h41_ram.specs.RegisterMap.{RegisterMap}
 use Rattle.h41_program.specs.declared.listed_line.ListedLine.{ListedLine}
 use Rattle.h41_program.specs.ProgramBytes.{byte_count, program_byte, program_bytes, final_position}
-use Rattle.h41_program.specs.ProgramLines.{FirstFrom, PositionFrom}
+use Rattle.h41_program.specs.FirstLines.{FirstFrom}
+use Rattle.h41_program.specs.ProgramLines.{PositionFrom}
 use Rattle.h41_program.proofs.Exists.{first_or_none}
 use Rattle.h41_program.proofs.FirstLines.{first_inside}
 use Rattle.h41_program.proofs.Memory.{byte_there}

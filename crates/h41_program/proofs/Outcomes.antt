@@ -17,7 +17,8 @@ use Rattle.h41_program.specs.Edits.{LeavesChanged, load_outcome, loaded_of, with
 use Rattle.h41_program.specs.Packing.{packed_lines}
 use Rattle.h41_program.specs.ProgramBytes.{program_bytes, final_position}
 use Rattle.h41_program.specs.ProgramLaws.{IsInner, HasLines, LeavesLoaded, LoadIsRead}
-use Rattle.h41_program.specs.ProgramLines.{FirstFrom, LinesFrom, Reads}
+use Rattle.h41_program.specs.FirstLines.{FirstFrom}
+use Rattle.h41_program.specs.ProgramLines.{LinesFrom, Reads}
 use Rattle.h41_program.specs.Rewriting.{with_program_lines, HasOutcome}
 use Rattle.h41_program.proofs.Inner.{KeepsInner, before_inner, changed_inner, closed_inner, loaded_inner}
 use Rattle.h41_program.proofs.Written.{written_behind, written_read, written_sound}

@@ -7,14 +7,15 @@ use Rattle.std.proofs.Math.ListN.{drop_of_length-le}
 use Rattle.std.proofs.lemmas.Bool.{cases_lt}
 use Rattle.std.proofs.lemmas.List.{get_or-take, take-take}
 use Rattle.std.proofs.lemmas.List.FromFn.{length-map-range_with_len, take-map-range_with_len}
-use Rattle.h41_codes.specs.ByteGrammar.{spelling, AnswersLine, Begins, IsLine, IsWhole}
+use Rattle.h41_codes.specs.ByteGrammar.{spelling, AnswersLine, Begins, IsComplete}
 use Rattle.h41_codes.specs.ByteLaws.{OneLine}
 use Rattle.h41_codes.proofs.LineLengths.{spelling_least}
 use Rattle.h41_codes.specs.declared.line.Line.{Line}
 use Rattle.h41_codes.specs.declared.line.Line.TheVariants.{Number}
 use Rattle.h41_ram.specs.RegisterMap.{RegisterMap, is_sound}
 use Rattle.h41_program.specs.ProgramBytes.{byte_count, program_byte, program_bytes, final_position}
-use Rattle.h41_program.specs.ProgramLines.{line_bytes, HasFirst, HasNoLine, HasPlace}
+use Rattle.h41_program.specs.FirstLines.{line_bytes}
+use Rattle.h41_program.specs.ProgramLines.{HasFirst, HasNoLine, HasPlace}
 use Rattle.h41_program.specs.declared.reading.LinePlace.{LinePlace}
 use Rattle.h41_program.specs.private.Reading.{bytes_seen, BeginsAt, BeginsNothing}
 use Rattle.h41_program.proofs.FirstLines.{first_inside}
@@ -56,7 +57,7 @@ some_behind memory p limit most few from (Some place) found =
     subst (λ (n : ℕ). n ≤ most) (sym (ap (λ (there : LinePlace). there.behind) found.3)) (omega (arith, inside, long, few, from))
 
 -- The bytes of a line alone begin with it.
-whole_alone : (line : Line) → IsWhole line []
+whole_alone : (line : Line) → IsComplete line []
 whole_alone (Number characters) = λ goes. absurd goes
 whole_alone line = tt
 
@@ -70,7 +71,7 @@ begins_own bytes line size begins =
         same = take-take size size bytes (omega arith) ∙ begins.spells.same;
       };
       whole =
-          subst (λ (rest : List ℕ). IsWhole line rest) (sym (drop_of_length-le (take size bytes) (omega (arith, long))))
+          subst (λ (rest : List ℕ). IsComplete line rest) (sym (drop_of_length-le (take size bytes) (omega (arith, long))))
           (whole_alone line);
     }
 
@@ -131,9 +132,6 @@ module _ (memory : RegisterMap) (sound : is_sound memory ≡ true) (at p next : 
       let behind = has.behind in
       let least = spelling_least line has.first.begins.spells.valid in
       omega (arith, behind, least)
-
-  pub place_valid : IsLine line
-  place_valid = has.first.begins.spells.valid
 
   pub place_inside : next ≤ byte_count memory
   place_inside =

@@ -7,7 +7,7 @@ use Rattle.std.proofs.lemmas.Bool.{cases_lt, cases_Bool, false≢true}
 use Rattle.std.proofs.lemmas.List.{length-replicate, get_or_append_left, get_or-append-add, get_or-replicate}
 use Rattle.std.proofs.Math.ListN.{get_or-eq_default}
 use Rattle.std.proofs.Math.Seq.{drop-append_seam}
-use Rattle.h41_codes.specs.ByteGrammar.{spelling, IsLine, IsWhole, GoesOn, Begins}
+use Rattle.h41_codes.specs.ByteGrammar.{spelling, IsLine, IsComplete, GoesOn, Begins}
 use Rattle.h41_codes.specs.ByteLaws.{ByteRoundTrip, IsNumber}
 use Rattle.h41_codes.specs.declared.line.Line.{Line}
 use Rattle.h41_codes.specs.declared.line.Line.TheVariants.{Null, Number, FinalEnd}
@@ -19,7 +19,8 @@ use Rattle.h41_program.specs.Lines.{is_number}
 use Rattle.h41_program.specs.Packing.{gap, last_line, packed_lines, filler, packing, written_end}
 use Rattle.h41_program.specs.private.Packers.{null_between}
 use Rattle.h41_program.specs.ProgramLaws.{IsInner, PackingRoundTrip}
-use Rattle.h41_program.specs.ProgramLines.{line_bytes, FirstFrom, Reads, behind}
+use Rattle.h41_program.specs.FirstLines.{line_bytes, FirstFrom, behind}
+use Rattle.h41_program.specs.ProgramLines.{Reads}
 use Rattle.h41_program.proofs.FirstLines.{line_bytes-below, line_bytes-at}
 use Rattle.h41_program.proofs.Inner.{not_final, not_null}
 use Rattle.h41_program.proofs.Packings.{length-packing, packed-join}
@@ -93,7 +94,7 @@ number_stops next behind valid goes = elim (cases_Bool (is_number next)) [
 
 -- A line is complete before the lines after it.
 follows_whole : (line : Line) (lines : List Line) (n : ℕ) → All IsInner lines
-    → IsWhole line (gap line lines ++ (packed_lines lines ++ replicate n 0))
+    → IsComplete line (gap line lines ++ (packed_lines lines ++ replicate n 0))
 follows_whole (Number characters) [] n inner = λ goes. absurd (nulls_stop n goes)
 follows_whole (Number characters) (next ∷ lines) n inner =
     λ goes. absurd (number_stops next (gap next lines ++ (packed_lines lines ++ replicate n 0)) (first_inner next lines inner).valid

@@ -12,7 +12,8 @@ use Rattle.h41_codes.specs.declared.line.Line.{Line}
 use Rattle.h41_codes.specs.declared.line.Line.TheVariants.{End, FinalEnd}
 use Rattle.h41_program.specs.declared.listed_line.ListedLine.{ListedLine}
 use Rattle.h41_program.specs.Lines.{is_end, is_final_end, is_label, is_named}
-use Rattle.h41_program.specs.ProgramLines.{behind, Reads}
+use Rattle.h41_program.specs.FirstLines.{behind}
+use Rattle.h41_program.specs.ProgramLines.{Reads}
 use Rattle.h41_program.proofs.Cases.{above_test, not_empty}
 use Rattle.h41_program.proofs.Walks.{last_rest, more_rest}
 use Rattle.h41_program.specs.Searches.{start_in, label_in, named_in, position_of}
@@ -26,10 +27,6 @@ final_no_end line final = cc
 final_no_name : (name : List ℕ) (line : Line) → is_final_end line ≡ true → is_named name line ≡ false
 final_no_name name (FinalEnd link marks) final = refl
 final_no_name name line final = cc
-
-final_no_label : (n : ℕ) (line : Line) → is_final_end line ≡ true → is_label n line ≡ false
-final_no_label n (FinalEnd link marks) final = refl
-final_no_label n line final = cc
 
 -- A label is no END.
 label_no_end : (n : ℕ) (line : Line) → is_label n line ≡ true → is_end line ≡ false
@@ -112,9 +109,6 @@ module _ (n : ℕ) (listed : ListedLine) (rest : List ListedLine) where
 
   pub label_in-other : is_end listed.line ≡ false → is_label n listed.line ≡ false → label_in n (listed ∷ rest) ≡ label_in n rest
   label_in-other other no_label = by_tests ∙ (rw (other, no_label) refl)
-
-pub label_in-final : (n : ℕ) (listed : ListedLine) → is_final_end listed.line ≡ true → label_in n (listed ∷ []) ≡ None
-label_in-final n listed final = label_in-other n listed [] (final_no_end listed.line final) (final_no_label n listed.line final)
 
 -- A search that found a line needs no second search.
 pub some_or : (first second : Option ListedLine) (position : ℕ) → position_of first ≡ Some position

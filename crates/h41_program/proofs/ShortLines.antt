@@ -6,7 +6,7 @@ use Rattle.std.specs.List.{range_with_len}
 use Rattle.std.proofs.lemmas.List.{length-take, take-take}
 use Rattle.std.proofs.lemmas.List.FromFn.{take-map-range_with_len}
 use Rattle.h41_codes.specs.Heads.{IsOneByte}
-use Rattle.h41_codes.specs.ByteGrammar.{AnswersLine, Begins, GoesOn, IsLine, IsWhole, spelling}
+use Rattle.h41_codes.specs.ByteGrammar.{AnswersLine, Begins, GoesOn, IsLine, IsComplete, spelling}
 use Rattle.h41_codes.specs.ByteLaws.{NumberBegins, OneLine}
 use Rattle.h41_codes.specs.declared.line.Line.{Line}
 use Rattle.h41_codes.specs.declared.line.Line.TheVariants.{Number}
@@ -20,7 +20,7 @@ abbrev pub BeginsNoNumber : ℕ → Type 0
 BeginsNoNumber byte = 0x10 ≤ byte → byte ≤ 0x1C → ⊥
 
 whole_alone : (numbers : NumberBegins) (line : Line) (byte : ℕ) (rest : List ℕ) → IsLine line → byte ∷ [] ≡ spelling line
-    → BeginsNoNumber byte → IsWhole line rest
+    → BeginsNoNumber byte → IsComplete line rest
 whole_alone numbers (Number characters) byte rest valid same other = λ goes.
     let begun : GoesOn (spelling (Number characters) ++ []) = (numbers (Number characters) [] valid).1 tt in
     let own : GoesOn (byte ∷ []) = subst (λ (bytes : List ℕ). GoesOn (bytes ++ [])) (sym same) begun in
@@ -89,7 +89,7 @@ no_number byte (inl low) = λ from to. omega (arith, low, from)
 no_number byte (inr high) = λ from to. omega (arith, high.0, to)
 
 pub whole_narrow : (numbers : NumberBegins) (line : Line) (byte count : ℕ) (more rest : List ℕ) → IsLine line
-    → take (suc count) (byte ∷ more) ≡ spelling line → BeginsNoNumber byte → IsWhole line rest
+    → take (suc count) (byte ∷ more) ≡ spelling line → BeginsNoNumber byte → IsComplete line rest
 whole_narrow numbers (Number characters) byte count more rest valid same other = λ goes.
     let begun : GoesOn (spelling (Number characters) ++ []) = (numbers (Number characters) [] valid).1 tt in
     let own : GoesOn (byte ∷ []) = subst (λ (bytes : List ℕ). GoesOn (bytes ++ [])) (sym same) begun in

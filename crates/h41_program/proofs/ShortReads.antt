@@ -5,7 +5,7 @@ use Rattle.std.specs.Prelude.{slice_index, slice_range}
 use Rattle.std.specs.List.{range_with_len}
 use Rattle.std.proofs.lemmas.List.{length-take}
 use Rattle.std.proofs.lemmas.List.FromFn.{take-map-range_with_len}
-use Rattle.h41_codes.specs.ByteGrammar.{spelling, Begins, GoesOn, IsWhole}
+use Rattle.h41_codes.specs.ByteGrammar.{spelling, Begins, GoesOn, IsComplete}
 use Rattle.h41_codes.specs.ByteLaws.{IsNumber, NullBegins, NumberBegins, OneLine}
 use Rattle.h41_codes.specs.Heads.{IsShort}
 use Rattle.h41_codes.specs.ShortLines.{BeginsNoShort, BeginsShorts, line_of}
@@ -16,7 +16,7 @@ use Rattle.h41_codes.specs.declared.short_lines.ShortLine.{ShortLine}
 use Rattle.h41_codes.specs.declared.short_lines.ShortLine.TheVariants as short
 use Rattle.h41_digits.specs.Register.{number_byte}
 use Rattle.h41_program.specs.ProgramBytes.{byte_count, final_position, program_byte, program_bytes}
-use Rattle.h41_program.specs.ProgramLines.{AnswersBoth, HasFirst, PositionFrom}
+use Rattle.h41_program.specs.ProgramLines.{AnswersBoth, HasFirst, PositionFrom, memory_source}
 use Rattle.h41_program.specs.ShortLines.{HasNoShort, HasShort}
 use Rattle.h41_program.specs.private.Reading.{bytes_seen, FoundBehind, HoldsBytes}
 use Rattle.h41_program.proofs.Memory.{Looked, looked_first}
@@ -53,7 +53,7 @@ no_number (short.BranchIndirect branch register) is = is
 no_number (short.ShortGoTo label distance) is = is
 no_number (short.BranchTo branch distance backwards label) is = is
 
-whole : (line : ShortLine) (rest : List ℕ) → IsWhole (line_of line) rest
+whole : (line : ShortLine) (rest : List ℕ) → IsComplete (line_of line) rest
 whole (short.LocalLabel label) rest = tt
 whole (short.Register function register) rest = tt
 whole (short.Plain function) rest = tt
@@ -75,7 +75,7 @@ three (short.BranchTo branch distance backwards label) = omega arith
 
 -- A short line does not end memory.
 pub goes_on : (memory : RegisterMap) (line : ShortLine) (at behind next : ℕ) → PositionFrom memory behind next
-    → FoundBehind memory (record { listed = record { position = at; line = line_of line }; behind = behind }) next
+    → FoundBehind (memory_source memory) (record { listed = record { position = at; line = line_of line }; behind = behind }) next
 goes_on memory (short.LocalLabel label) at behind next from = from
 goes_on memory (short.Register function register) at behind next from = from
 goes_on memory (short.Plain function) at behind next from = from
@@ -113,7 +113,7 @@ pub short_found :
     (memory : RegisterMap) (at : ℕ) (line : ShortLine) (next : ℕ)
     → HasShort memory at line next → AnswersBoth memory at (Ok (line_of line, next))
 short_found memory at line next has =
-    both_found memory at (record { listed = record { position = at; line = line_of line }; behind = has.0 }) next has.1
+    both_found (memory_source memory) at (record { listed = record { position = at; line = line_of line }; behind = has.0 }) next has.1
     (goes_on memory line at has.0 next has.2)
 
 module _ (one : OneLine) (memory : RegisterMap) (at last first second third : ℕ)

@@ -4,7 +4,7 @@ use Rattle.std.proofs.Common.{take, drop, get_or, refl, sym, ◌∙◌, ap, subs
 use Rattle.std.specs.Prelude.{◌==◌}
 use Rattle.std.proofs.lemmas.Bool.{and_parts, cases_lt, cases_eq, eqb-true}
 use Rattle.std.proofs.lemmas.List.{get_or-take, get_or-drop, length-map}
-use Rattle.h41_codes.specs.ByteGrammar.{operand_byte, label_byte, IsBytes, IsOperand, IsWhole, GoesOn, Begins, Spells}
+use Rattle.h41_codes.specs.ByteGrammar.{operand_byte, label_byte, IsBytes, IsOperand, IsComplete, GoesOn, Begins, Spells}
 use Rattle.h41_codes.specs.Codes.{parameter_function_code, name_function_code, branch_code, character_code}
 use Rattle.h41_codes.specs.Functions.{characters, parameter_functions}
 use Rattle.h41_codes.specs.Heads.{IsIn, IsTwoBytes}
@@ -30,7 +30,7 @@ Sized bytes size = (line : Line) × Begins bytes line size × EndsNothing line
 
 -- Bytes are all those of a line that is no number and ends neither a program nor memory.
 abbrev Spelled : List ℕ → Type 0
-Spelled bytes = (line : Line) × Spells bytes line × ((rest : List ℕ) → IsWhole line rest) × EndsNothing line
+Spelled bytes = (line : Line) × Spells bytes line × ((rest : List ℕ) → IsComplete line rest) × EndsNothing line
 
 -- The first numbers of a list, this many, are bytes.
 abbrev pub Bytes : List ℕ → ℕ → Type 0

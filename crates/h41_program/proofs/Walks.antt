@@ -7,7 +7,8 @@ use Rattle.h41_program.specs.declared.listed_line.ListedLine.{ListedLine}
 use Rattle.h41_program.specs.Edits.{before_end}
 use Rattle.h41_program.specs.Lines.{is_final_end}
 use Rattle.h41_program.specs.ProgramBytes.{program_bytes, final_position}
-use Rattle.h41_program.specs.ProgramLines.{IsFirst, NoneFrom, Reads, LinesFrom, behind}
+use Rattle.h41_program.specs.FirstLines.{IsFirst, NoneFrom, behind}
+use Rattle.h41_program.specs.ProgramLines.{Reads, LinesFrom}
 use Rattle.h41_ram.specs.RegisterMap.{RegisterMap, is_sound}
 use Rattle.std.proofs.lemmas.Bool.{true≢false}
 

@@ -8,7 +8,7 @@ use Rattle.std.proofs.lemmas.Bool.{cases_lt}
 use Rattle.std.proofs.Common.{take_all, min}
 use Rattle.h41_codes.specs.Codes.{character_code}
 use Rattle.std.proofs.lemmas.List.{length-map}
-use Rattle.h41_codes.specs.ByteGrammar.{spelling, IsLine, IsWhole, GoesOn, Begins}
+use Rattle.h41_codes.specs.ByteGrammar.{spelling, IsLine, IsComplete, GoesOn, Begins}
 use Rattle.h41_codes.specs.declared.line.Line.{Line}
 use Rattle.h41_codes.specs.declared.line.Line.TheVariants.{Number}
 use Rattle.h41_codes.proofs.LineLengths.{spelling_most, spelling_least}
@@ -42,14 +42,14 @@ rest_in count bytes below =
     ap (λ n. drop count (take n bytes)) size ∙ drop-take count (suc (17 - count)) bytes
 
 whole_out : (line : Line) (bytes : List ℕ) (count : ℕ) → IsLine line → count ≡ length (spelling line)
-    → IsWhole line (drop count (take 18 bytes)) → IsWhole line (drop count bytes)
+    → IsComplete line (drop count (take 18 bytes)) → IsComplete line (drop count bytes)
 whole_out (Number characters) bytes count valid size whole =
     λ goes. whole (subst GoesOn (sym (rest_in count bytes (omega (arith, size, length-map characters character_code, valid.1))))
     (goes_in (17 - count) (drop count bytes) goes))
 whole_out line bytes count valid size whole = tt
 
-whole_in : (line : Line) (bytes : List ℕ) (count : ℕ) → IsLine line → count ≡ length (spelling line) → IsWhole line (drop count bytes)
-    → IsWhole line (drop count (take 18 bytes))
+whole_in : (line : Line) (bytes : List ℕ) (count : ℕ) → IsLine line → count ≡ length (spelling line) → IsComplete line (drop count bytes)
+    → IsComplete line (drop count (take 18 bytes))
 whole_in (Number characters) bytes count valid size whole =
     λ goes. whole (goes_out (17 - count) (drop count bytes)
     (subst GoesOn (rest_in count bytes (omega (arith, size, length-map characters character_code, valid.1))) goes))

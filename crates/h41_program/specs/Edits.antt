@@ -16,7 +16,8 @@ use Rattle.h41_program.specs.declared.refusal.ProgramRefusal.TheVariants.{Broken
 use Rattle.h41_program.specs.Lines.{is_end, is_final_end}
 use Rattle.h41_program.specs.Packing.{last_line, packed_lines}
 use Rattle.h41_program.specs.ProgramBytes.{program_bytes, final_position}
-use Rattle.h41_program.specs.ProgramLines.{FirstFrom, HasNoLine, LinesFrom, Reads, behind}
+use Rattle.h41_program.specs.FirstLines.{FirstFrom, behind}
+use Rattle.h41_program.specs.ProgramLines.{HasNoLine, LinesFrom, Reads}
 use Rattle.h41_program.specs.Rewriting.{with_program_lines, HasOutcome}
 use Rattle.h41_program.specs.Searches.{position_of}
 

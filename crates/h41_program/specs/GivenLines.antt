@@ -1,6 +1,6 @@
 -- The first line of given bytes.
 use Rattle.std.specs.Prelude.{ℕ, List, length}
-use Rattle.h41_program.specs.ProgramLines.{IsFirst, NoneFrom}
+use Rattle.h41_program.specs.FirstLines.{IsFirst, NoneFrom}
 use Rattle.h41_program.specs.declared.given.Taken.{Taken}
 
 -- Bytes have this line as the first one from a position on.

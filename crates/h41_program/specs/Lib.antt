@@ -1,5 +1,6 @@
 pub mod Dependence
 pub mod Edits
+pub mod FirstLines
 pub mod GivenLines
 pub mod LastProgram
 pub mod Lines
@@ -13,4 +14,5 @@ pub mod SearchLaws
 pub mod Searches
 pub mod ShortLines
 pub mod Size
+pub mod Sources
 pub mod private

@@ -11,7 +11,8 @@ use Rattle.h41_program.specs.Edits.{LoadGives}
 use Rattle.h41_program.specs.declared.refusal.ProgramRefusal.{ProgramRefusal}
 use Rattle.h41_program.specs.Lines.{is_inner}
 use Rattle.h41_program.specs.Packing.{packed_lines, packing, written_end}
-use Rattle.h41_program.specs.ProgramLines.{FirstFrom, LinesFrom, NoneFrom, Reads, ReadsTo}
+use Rattle.h41_program.specs.FirstLines.{FirstFrom, NoneFrom, ReadsTo}
+use Rattle.h41_program.specs.ProgramLines.{LinesFrom, Reads}
 use Rattle.h41_program.specs.Rewriting.{with_program_lines}
 use Rattle.h41_program.specs.Size.{size_outcome}
 

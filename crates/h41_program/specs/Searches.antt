@@ -6,7 +6,8 @@ use Rattle.std.specs.Option.{option_map, option_map_or, option_or}
 use Rattle.h41_ram.specs.RegisterMap.{RegisterMap}
 use Rattle.h41_program.specs.declared.listed_line.ListedLine.{ListedLine}
 use Rattle.h41_program.specs.Lines.{is_end, is_final_end, is_label, is_named}
-use Rattle.h41_program.specs.ProgramLines.{LinesFrom, behind}
+use Rattle.h41_program.specs.FirstLines.{behind}
+use Rattle.h41_program.specs.ProgramLines.{LinesFrom}
 
 -- The last END before a position.
 abbrev pub end_before : ℕ → List ListedLine → Option ListedLine

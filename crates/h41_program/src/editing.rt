@@ -13,7 +13,7 @@ ghost use Rattle.h41_program.specs.private.EditSteps.{listed_of, new_part};
 ghost use Rattle.h41_program.specs.private.EditSteps as spec;
 ghost use Rattle.h41_program.specs.Lines.{is_inner};
 ghost use Rattle.h41_program.specs.private.Packers.{Puts, line_if};
-ghost use Rattle.h41_program.specs.ProgramLines.{behind};
+ghost use Rattle.h41_program.specs.FirstLines.{behind};
 ghost use Rattle.h41_program.specs.private.Reading.{AnswersFrom};
 ghost use Rattle.h41_program.specs.declared.editing.Change.TheVariants.{Put};
 ghost use Rattle.h41_ram.specs.RamState.{KeepsMark, MarksIf};
@@ -21,7 +21,7 @@ ghost use Rattle.h41_ram.specs.RamState.{KeepsMark, MarksIf};
 use crate::kinds::{is_end, is_final_end};
 use crate::packer::Packer;
 use crate::ranges::know_ranges;
-use crate::reading::{Found, first_from, line_at};
+use crate::reading::{Found, first_from};
 use crate::refusal::ProgramRefusal;
 use h41_codes::Line;
 use h41_codes::laws::byte_round_trip;
@@ -181,7 +181,10 @@ fn change_at<const REGS: usize>(
     ensures mark { KeepsMark ram.old ram.new }
     ensures marked { MarksIf (is_ok result) ram.old ram.new }
 {
-    let place = line_at(ram, at)?.position;
+    let Some(found) = first_from(ram, at) else {
+        return Err(ProgramRefusal::BrokenProgram);
+    };
+    let place = found.listed.position;
     let count = lines_before(ram, place);
     packed_changed(ram, place, &change)?.write(ram)?;
     Ok(count)

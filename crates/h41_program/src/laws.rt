@@ -78,8 +78,8 @@ pub fn lists_are_determined()
     byte_round_trip();
 }
 
-/// States that each search in program memory has one answer: searches for labels, starts and ends of programs, and also
-/// `line_at`, `next`, `is_last_open`, `end_of` and the functions that number the lines of a program.
+/// States that each search in program memory has one answer: the line at a position and the next position, searches for
+/// labels, starts and ends of programs, the numbers of the lines of a program, and whether the last program is open.
 pub fn searches_are_determined()
     ensures line { LineIsDetermined }
     ensures next { NextIsDetermined }

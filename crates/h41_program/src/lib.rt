@@ -8,9 +8,7 @@ mod kinds;
 pub mod laws;
 mod listed_line;
 mod loading;
-mod numbering;
 mod packer;
-mod positions;
 mod ranges;
 mod reading;
 mod refusal;
@@ -24,11 +22,10 @@ pub use given::{Taken, line_in};
 pub use kinds::{is_end, is_final_end, is_inner, is_label, is_named, is_number};
 pub use listed_line::ListedLine;
 pub use loading::{close_last, is_last_open, load};
-pub use numbering::line_before;
-pub use positions::{line_and_next, line_number, next};
 pub use reading::{
-    ByteReader, Found, final_position, first_from, line_at, position_by, short_line,
+    ByteReader, Found, LinePlace, byte_at, final_position, first_from, place_from, position_by,
+    position_from, short_line,
 };
 pub use refusal::ProgramRefusal;
-pub use searches::{end_of, global, local, start_of};
+pub use searches::{global, start_of};
 pub use size::set_size;

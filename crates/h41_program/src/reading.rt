@@ -9,17 +9,14 @@ ghost use Rattle.h41_ram.specs.RegisterMap.{is_sound};
 ghost use Rattle.h41_program.specs.private.ByteReading.{ReadsAt};
 ghost use Rattle.h41_program.specs.ProgramBytes.{byte_count, final_position, program_byte};
 ghost use Rattle.h41_program.specs.ProgramBytes as spec;
-ghost use Rattle.h41_program.specs.ProgramLines.{AnswersFirst, HasFirst, HasNoLine};
+ghost use Rattle.h41_program.specs.ProgramLines.{HasFirst, HasNoLine};
 ghost use Rattle.h41_program.specs.ProgramLines.{HasPlace, PositionFrom};
 ghost use Rattle.h41_program.specs.ShortLines.{HasNoShort, HasShort};
 ghost use Rattle.h41_program.specs.private.Reading.{bytes_seen, register_holding, BeginsAt, Fits};
-ghost use Rattle.h41_program.specs.private.Reading.{BeginsNothing, BeginsSized, FoundBehind};
-ghost use Rattle.h41_program.specs.private.Reading.{HoldsBytes};
+ghost use Rattle.h41_program.specs.private.Reading.{BeginsNothing, BeginsSized, HoldsBytes};
 ghost use Rattle.h41_codes.specs.Heads.{IsIn};
 
-use crate::kinds::is_final_end;
 use crate::listed_line::ListedLine;
-use crate::refusal::ProgramRefusal;
 use arrayvec::ArrayVec;
 use h41_codes::laws::{byte_round_trip, first_bytes, line_or_none};
 use h41_codes::{
@@ -474,34 +471,9 @@ fn first_decoded<const REGS: usize>(ram: &Ram<REGS>, at: u16) -> Option<Found>
     }
 }
 
-/// Returns the line at a position of program memory: the first line from there on, after any nulls, with the position
-/// of its first byte. BrokenProgram (14) if there is none. Memory must be sound.
-pub fn line_at<const REGS: usize>(ram: &Ram<REGS>, at: u16) -> Result<ListedLine, ProgramRefusal>
-    requires { IsTrue (is_sound ram.now.registers) }
-    ensures { AnswersFirst ram.now.registers at result }
-{
-    match first_from(ram, at) {
-        Some(found) => Ok(found.listed),
-        None => Err(ProgramRefusal::BrokenProgram),
-    }
-}
-
-/// Returns the position of the line after a line that was found. If no line follows, it is the position of the byte
-/// just after the line; for `.END.` it is its own position.
-pub fn position_behind<const REGS: usize>(ram: &Ram<REGS>, first: Found) -> u16
-    requires { IsTrue (is_sound ram.now.registers) }
-    ensures { FoundBehind ram.now.registers first result }
-{
-    let Found { listed, behind } = first;
-    if is_final_end(listed.line) {
-        return listed.position;
-    }
-    position_from(ram, behind)
-}
-
-/// Returns the position of the first line from the position `at` on, or `at` if no line follows.
+/// Returns the position of the first line from the position `at` on, or `at` if no line follows. Memory must be sound.
 #[inline(always)]
-fn position_from<const REGS: usize>(ram: &Ram<REGS>, at: u16) -> u16
+pub fn position_from<const REGS: usize>(ram: &Ram<REGS>, at: u16) -> u16
     requires { IsTrue (is_sound ram.now.registers) }
     ensures { PositionFrom ram.now.registers at result }
 {

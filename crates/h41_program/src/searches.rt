@@ -1,16 +1,14 @@
-//! Searches for the starts and ends of programs, and for labels.
+//! Searches in the whole list of lines: for the start of a program, and for a global label.
 ghost use Rattle.std.specs.Prelude.{◌≡◌, IsTrue};
 ghost use Rattle.h41_ram.specs.RegisterMap.{is_sound};
 ghost use Rattle.h41_program.specs.Lines as spec;
-ghost use Rattle.h41_program.specs.ProgramLines.{AnswersOf, HasPlace};
-ghost use Rattle.h41_program.specs.private.Reading.{AnswersFrom, OfPlace};
-ghost use Rattle.h41_program.specs.Searches.{AnswersLocal, AnswersProgram, end_in, label_in};
-ghost use Rattle.h41_program.specs.Searches.{named_in, position_of, start_in, up_to_end};
+ghost use Rattle.h41_program.specs.ProgramLines.{AnswersOf, HasPlace, memory_source};
+ghost use Rattle.h41_program.specs.private.Reading.{OfPlace};
+ghost use Rattle.h41_program.specs.Searches.{named_in, position_of, start_in};
 
-use crate::kinds::{is_label, is_named};
+use crate::kinds::is_named;
 use crate::laws::one_list;
 use crate::reading::{LinePlace, byte_at, first_from, place_from};
-use h41_codes::Parameter;
 use h41_codes::laws::byte_round_trip;
 use h41_ram::Ram;
 
@@ -37,96 +35,6 @@ pub fn start_of<const REGS: usize>(ram: &Ram<REGS>, at: u16) -> u16
         position = place.behind;
     }
     start
-}
-
-/// Returns the position of the first END or `.END.` in the list of lines from a position on, or `None` if there is
-/// none.
-fn end_from<const REGS: usize>(ram: &Ram<REGS>, from: u16) -> Option<u16>
-    requires { IsTrue (is_sound ram.now.registers) }
-    ensures { AnswersFrom (λ lines. end_in (up_to_end lines)) ram.now.registers from result }
-{
-    let mut at = from;
-    while let Some(place) = place_from(ram, at) {
-        if place.ends_program {
-            return Some(place.position);
-        }
-        if place.ends_memory {
-            return Some(place.position);
-        }
-        at = place.behind;
-    }
-    None
-}
-
-/// Returns the position of the END of the program that contains a position of program memory, or of `.END.` if that is
-/// before any END. `None` if bytes that are no line precede both. Memory must be sound.
-pub fn end_of<const REGS: usize>(ram: &Ram<REGS>, at: u16) -> Option<u16>
-    requires { IsTrue (is_sound ram.now.registers) }
-    ensures { AnswersProgram end_in ram.now.registers at result }
-{
-    byte_round_trip();
-    one_list();
-    end_from(ram, start_of(ram, at))
-}
-
-/// Returns the position of the first local label `LBL n`, with the number n of `label`, from a position of program
-/// memory to the END, otherwise that of the first one in the program. `None` if there is none. Memory must be sound.
-pub fn local<const REGS: usize>(ram: &Ram<REGS>, at: u16, label: Parameter) -> Option<u16>
-    requires { IsTrue (is_sound ram.now.registers) }
-    ensures { AnswersLocal ram.now.registers at label result }
-{
-    byte_round_trip();
-    one_list();
-    match label_from(ram, at, label) {
-        Some(position) => Some(position),
-        None => label_from(ram, start_of(ram, at), label),
-    }
-}
-
-/// Returns the position of the first local label `LBL n`, with the number n of `label`, from a position of program
-/// memory to the next END or `.END.`. `None` if there is none.
-fn label_from<const REGS: usize>(ram: &Ram<REGS>, at: u16, label: Parameter) -> Option<u16>
-    requires { IsTrue (is_sound ram.now.registers) }
-    ensures { AnswersFrom (λ lines. position_of (label_in label lines))
-        ram.now.registers at result }
-{
-    let mut position = at;
-    while let Some(place) = place_from(ram, position) {
-        if is_label_at(ram, position, &place, label) {
-            return Some(place.position);
-        }
-        if place.ends_program {
-            return None;
-        }
-        if place.ends_memory {
-            return None;
-        }
-        position = place.behind;
-    }
-    None
-}
-
-/// Returns whether the line that begins at `place`, which is the first line from the position `at` on, is the local
-/// label `LBL n` with the number n of `label`. The line is only decoded if its first byte is that of a local label.
-#[inline(always)]
-fn is_label_at<const REGS: usize>(
-    ram: &Ram<REGS>,
-    at: u16,
-    place: &LinePlace,
-    label: Parameter,
-) -> bool
-    requires sound { IsTrue (is_sound ram.now.registers) }
-    requires place { HasPlace ram.now.registers at place.now }
-    ensures { OfPlace ram.now.registers at place.now (λ line. result ≡ spec.is_label label line) }
-{
-    let first = byte_at(ram, place.position);
-    if first >= 0x10 && first != 0xCF {
-        return false;
-    }
-    match first_from(ram, at) {
-        Some(found) => is_label(found.listed.line, label),
-        None => false,
-    }
 }
 
 /// Returns the position of the last global label in memory whose name is exactly `name`, or `None` if there is none.
@@ -157,7 +65,7 @@ pub fn global<const REGS: usize>(ram: &Ram<REGS>, name: &[u8]) -> Option<u16>
 fn is_named_at<const REGS: usize>(ram: &Ram<REGS>, at: u16, place: &LinePlace, name: &[u8]) -> bool
     requires sound { IsTrue (is_sound ram.now.registers) }
     requires place { HasPlace ram.now.registers at place.now }
-    ensures { OfPlace ram.now.registers at place.now
+    ensures { OfPlace (memory_source ram.now.registers) at place.now
         (λ line. result ≡ spec.is_named name.now line) }
 {
     if usize::from(place.behind - place.position) != name.len() + 4 {

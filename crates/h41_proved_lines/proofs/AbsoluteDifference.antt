@@ -17,8 +17,9 @@ use Rattle.h41_program.specs.ProgramLaws.{OneList}
 use Rattle.h41_program.specs.declared.listed_line.ListedLine.{ListedLine}
 use Rattle.h41_ram.specs.RegisterMap.{RegisterMap, is_sound}
 use Rattle.h41_rows.specs.Places.{X, Y}
-use Rattle.h41_rows.specs.Values.{IsRegisterOf}
-use Rattle.h41_rows.specs.Values as values
+use Rattle.h41_rows.specs.Values.{IsRegisterOf, OfOne, OfTwo}
+use Rattle.h41_rows.specs.declared.values.ValueOfOne.TheVariants as ones
+use Rattle.h41_rows.specs.declared.values.ValueOfTwo.TheVariants as twos
 use Rattle.h41_reasoning_lines.specs.LineRuns.{Leaves}
 use Rattle.h41_reasoning_lines.specs.ProgramLines.{HasProgram}
 use Rattle.h41_reasoning_lines.specs.Stacks.{Stack, stack_of, with_stack}
@@ -73,10 +74,11 @@ module _ (itself : DecimalIsItsNearest) (registers : DecimalHasOneRegister) (lis
       (also (with_stack stack memory) (with_stack after_second memory) two.next _ three.next (same_program stack after_second memory sound)
       three.stands) in
       line_then pages 2 _ _ _
-      (of_two pages stack memory at one.next zero returns lift functions.Subtract (values.Difference Y X) first.0 refl one.stands
+      (of_two pages stack memory at one.next zero returns lift functions.Subtract (OfTwo twos.Difference Y X) first.0 refl one.stands
       (subtracted stack memory y x in_y in_x difference first.0 first.1 nearest))
       (line_then pages 1 _ _ _
-      (of_one pages after_first memory one.next two.next false returns true functions.AbsoluteValue (values.AbsoluteValue X) second.0 refl
+      (of_one pages after_first memory one.next two.next false returns true functions.AbsoluteValue (OfOne ones.AbsoluteValue X)
+      second.0 refl
       (also (with_stack stack memory) (with_stack after_first memory) one.next _ two.next (same_program stack after_first memory sound)
       two.stands)
       (made_absolute after_first memory (units difference) first.1.holds (absolute difference).0 second.0 second.1 size_nearest))

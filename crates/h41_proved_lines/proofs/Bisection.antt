@@ -28,8 +28,8 @@ use Rattle.h41_rows.specs.Places.{are_numbers}
 use Rattle.h41_rows.specs.Places as places
 use Rattle.h41_rows.specs.RowEffects.{holds_in}
 use Rattle.h41_rows.specs.Rows as rows
-use Rattle.h41_rows.specs.Values.{IsRegisterOf}
-use Rattle.h41_rows.specs.Values as values
+use Rattle.h41_rows.specs.Values.{IsRegisterOf, OfTwo}
+use Rattle.h41_rows.specs.declared.values.ValueOfTwo.TheVariants as twos
 use Rattle.h41_reasoning_lines.specs.LineRuns.{Continues, Leaves}
 use Rattle.h41_reasoning_lines.specs.ProgramLines.{IsProgram, ends_program}
 use Rattle.h41_reasoning_lines.specs.Stacks.{Stack, with_stack}
@@ -205,7 +205,7 @@ module _ (itself : DecimalIsItsNearest) (registers : DecimalHasOneRegister) (lis
           (line_then pages _ _ _ After
           (recalled_as 2 (omega arith) bracket.in_2.0 bracket.in_2.1 begun.st l1.next l2.next l2.stands)
           (line_then pages _ _ _ After
-          (of_two pages both_stack memory l2.next l3.next false returns true functions.Add (values.Sum places.Y places.X)
+          (of_two pages both_stack memory l2.next l3.next false returns true functions.Add (OfTwo twos.Sum places.Y places.X)
           sum_register.0 refl
           (still stack both_stack memory sound l2.next l3.next _ l3.stands)
           (added both_stack memory low high begun.in_x bracket.in_2.2 half.0 sum_register.0 sum_register.1 half.1))
@@ -218,13 +218,13 @@ module _ (itself : DecimalIsItsNearest) (registers : DecimalHasOneRegister) (lis
           }
           two_register.1 (still stack sum_stack memory sound l3.next l4.next _ l4.stands))
           (line_then pages _ _ _ After
-          (of_two pages two_stack memory l4.next l5.next false returns true functions.Divide (values.Quotient places.Y places.X)
+          (of_two pages two_stack memory l4.next l5.next false returns true functions.Divide (OfTwo twos.Quotient places.Y places.X)
           middle_register.0 refl
           (still stack two_stack memory sound l4.next l5.next _ l5.stands)
           (divided two_stack memory (units half.0) (pos (2 * one)) sum_register.1.holds (two_register.1.holds ∙ ap Number two.1) middle
           middle_register.0 middle_register.1 half.2))
           (line_then pages _ _ _ After
-          (of_one pages middle_stack memory l5.next l6.next false returns true functions.Square (values.Product places.X places.X)
+          (of_one pages middle_stack memory l5.next l6.next false returns true functions.Square (OfTwo twos.Product places.X places.X)
           square_register.0 refl
           (still stack middle_stack memory sound l5.next l6.next _ l6.stands)
           (squared middle_stack memory (units middle) middle_register.1.holds square square_register.0 square_register.1 is_square))

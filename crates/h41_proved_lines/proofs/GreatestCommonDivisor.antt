@@ -21,8 +21,8 @@ use Rattle.h41_program.proofs.Depends as depends
 use Rattle.h41_ram.specs.RegisterMap.{RegisterMap, is_sound}
 use Rattle.h41_rows.specs.Places as places
 use Rattle.h41_rows.specs.Rows as rows
-use Rattle.h41_rows.specs.Values.{IsRegisterOf}
-use Rattle.h41_rows.specs.Values as values
+use Rattle.h41_rows.specs.Values.{IsRegisterOf, OfTwo}
+use Rattle.h41_rows.specs.declared.values.ValueOfTwo.TheVariants as twos
 use Rattle.h41_reasoning_lines.specs.LineRounds.{AfterRound}
 use Rattle.h41_reasoning_lines.specs.LineRuns.{Continues, Leaves, WithinSteps}
 use Rattle.h41_reasoning_lines.specs.ProgramLines.{IsProgram, ends_program}
@@ -118,7 +118,8 @@ module _ (itself : DecimalIsItsNearest) (injective : UnitsAreInjective) (determi
         divided : Continues pages (after_line (with_stack st memory) l1.next returns lift)
             (after_line (with_stack reduced_stack memory) l2.next returns true)
         divided =
-            of_two pages st memory l1.next l2.next false returns lift functions.Modulo (values.Remainder places.Y places.X) result.0 refl
+            of_two pages st memory l1.next l2.next false returns lift functions.Modulo (OfTwo twos.Remainder places.Y places.X)
+            result.0 refl
             (still stack st memory sound l1.next l2.next _ l2.stands)
             (reduced st memory (whole y) (whole x) numbers.in_y numbers.in_x rest_ten.0 result.0 result.1
             (whole_ten y numbers.small_y).0 (whole_ten x numbers.small_x).0 (whole_ten y numbers.small_y).1 (whole_ten x numbers.small_x).1

@@ -10,7 +10,8 @@ use Rattle.h41_codes.specs.declared.line.Line.TheVariants.{End, GlobalLabel, Loc
 use Rattle.h41_codes.proofs.LineLengths.{spelling_least}
 use Rattle.h41_program.specs.LastProgram.{ClosedIsNotOpen}
 use Rattle.h41_program.specs.ProgramLaws.{ListsAreDetermined, LoadIsRead, ReadIsDetermined}
-use Rattle.h41_program.specs.ProgramLines.{FirstFrom, NoneFrom, Reads, line_bytes}
+use Rattle.h41_program.specs.FirstLines.{FirstFrom, NoneFrom, line_bytes}
+use Rattle.h41_program.specs.ProgramLines.{Reads}
 use Rattle.h41_program.specs.declared.listed_line.ListedLine.{ListedLine}
 use Rattle.h41_program.proofs.FirstLines.{line_bytes-above, line_bytes-at}
 use Rattle.h41_reasoning_lines.specs.Loads.{AreBytesOf}

@@ -30,8 +30,8 @@ use Rattle.h41_rows.specs.Counters.{Up}
 use Rattle.h41_rows.specs.LineRows.{loop}
 use Rattle.h41_rows.specs.Operands.{address_of}
 use Rattle.h41_rows.specs.Places as places
-use Rattle.h41_rows.specs.Values.{IsRegisterOf}
-use Rattle.h41_rows.specs.Values as values
+use Rattle.h41_rows.specs.Values.{IsRegisterOf, OfTwo}
+use Rattle.h41_rows.specs.declared.values.ValueOfTwo.TheVariants as twos
 use Rattle.h41_reasoning_lines.specs.LineRuns.{Continues, Leaves}
 use Rattle.h41_reasoning_lines.specs.ProgramLines.{IsProgram, ends_program}
 use Rattle.h41_reasoning_lines.specs.Stacks.{Stack, stack_of, with_stack}
@@ -128,7 +128,7 @@ module _ (itself : DecimalIsItsNearest) (registers : DecimalHasOneRegister) (lis
         summed : Continues pages (after_line (with_stack recalled_stack memory) l4.next returns true)
             (after_line (with_stack added_stack memory) l5.next returns true)
         summed =
-            of_two pages recalled_stack memory l4.next l5.next false returns true functions.Add (values.Sum places.Y places.X) result.0
+            of_two pages recalled_stack memory l4.next l5.next false returns true functions.Add (OfTwo twos.Sum places.Y places.X) result.0
             refl
             (still stack recalled_stack memory sound l4.next l5.next _ l5.stands)
             (added recalled_stack memory (units before) number numbers.in_x has between result.0 result.1 nearest)

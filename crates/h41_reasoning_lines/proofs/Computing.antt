@@ -3,9 +3,10 @@ use Rattle.std.proofs.Common.{◌≡◌, ℕ, Bool, true, false, List, [], ◌�
 use Rattle.std.specs.Prelude.{◌&&◌, int_le, int_lt, is_some, ℤ, pos, ◌+ℤ◌, ◌-ℤ◌, ◌*ℤ◌, neg_ℤ, unsigned_abs}
 use Rattle.std.specs.Option.{option_map_or}
 use Rattle.h41_decimal.specs.Holding.{Number, holding_of, number_in, worth}
-use Rattle.h41_decimal.specs.NearestDecimal.{Nearest}
+use Rattle.h41_decimal.specs.NearestDecimal.{Nearest, NearestRoot}
 use Rattle.h41_decimal.specs.Operations.{NearestModulo, NearestQuotient}
 use Rattle.h41_decimal.specs.Units.{one, units}
+use Rattle.h41_decimal.specs.WholeParts.{IsIntegerPart}
 use Rattle.h41_decimal.specs.declared.ten.Ten.{Ten}
 use Rattle.h41_decimal.proofs.Registers.{worth-holding_of}
 use Rattle.h41_focal.specs.LineStep.{Works}
@@ -13,8 +14,9 @@ use Rattle.h41_ram.specs.RegisterMap.{RegisterMap}
 use Rattle.h41_rows.specs.Places.{X, Y, amount_in, are_numbers}
 use Rattle.h41_rows.specs.RowEffects.{holds_in}
 use Rattle.h41_rows.specs.Rows.{AtMost, Below, In, Nought, compute, lifting_row, of_x, of_y_and_x}
-use Rattle.h41_rows.specs.Values.{IsRegisterOf}
-use Rattle.h41_rows.specs.Values as values
+use Rattle.h41_rows.specs.Values.{IsRegisterOf, OfOne, OfTwo, unit_of}
+use Rattle.h41_rows.specs.declared.values.ValueOfOne.TheVariants as ones
+use Rattle.h41_rows.specs.declared.values.ValueOfTwo.TheVariants as twos
 use Rattle.h41_reasoning_lines.specs.Stacks.{Stack, with_stack}
 use Rattle.h41_reasoning_lines.proofs.Stepping.{holding_true}
 
@@ -52,7 +54,7 @@ module _ (stack : Stack) (memory : RegisterMap) (y x : ℤ) (in_y : holding_of s
       both (is_some (number_in stack.y)) (is_some (number_in stack.x)) (there (number_in stack.y) y (number_there stack.y y in_y))
       (there (number_in stack.x) x (number_there stack.x x in_x))
 
-  pub added : Nearest (y +ℤ x) 1 (Ok answer) → Works here 0 (of_y_and_x (values.Sum Y X)) (Ok result)
+  pub added : Nearest (y +ℤ x) 1 (Ok answer) → Works here 0 (of_y_and_x (OfTwo twos.Sum Y X)) (Ok result)
   added nearest =
       holding_true (is_some (number_in stack.y) && (is_some (number_in stack.x) && true)) _ _ numbers
       record {
@@ -63,7 +65,7 @@ module _ (stack : Stack) (memory : RegisterMap) (y x : ℤ) (in_y : holding_of s
         kept = is;
       }
 
-  pub subtracted : Nearest (y -ℤ x) 1 (Ok answer) → Works here 0 (of_y_and_x (values.Difference Y X)) (Ok result)
+  pub subtracted : Nearest (y -ℤ x) 1 (Ok answer) → Works here 0 (of_y_and_x (OfTwo twos.Difference Y X)) (Ok result)
   subtracted nearest =
       holding_true (is_some (number_in stack.y) && (is_some (number_in stack.x) && true)) _ _ numbers
       record {
@@ -74,7 +76,7 @@ module _ (stack : Stack) (memory : RegisterMap) (y x : ℤ) (in_y : holding_of s
         kept = is;
       }
 
-  pub multiplied : Nearest (y *ℤ x) one (Ok answer) → Works here 0 (of_y_and_x (values.Product Y X)) (Ok result)
+  pub multiplied : Nearest (y *ℤ x) one (Ok answer) → Works here 0 (of_y_and_x (OfTwo twos.Product Y X)) (Ok result)
   multiplied nearest =
       holding_true (is_some (number_in stack.y) && (is_some (number_in stack.x) && true)) _ _ numbers
       record {
@@ -85,7 +87,7 @@ module _ (stack : Stack) (memory : RegisterMap) (y x : ℤ) (in_y : holding_of s
         kept = is;
       }
 
-  pub divided : NearestQuotient y x (Ok answer) → Works here 0 (of_y_and_x (values.Quotient Y X)) (Ok result)
+  pub divided : NearestQuotient y x (Ok answer) → Works here 0 (of_y_and_x (OfTwo twos.Quotient Y X)) (Ok result)
   divided nearest =
       holding_true (is_some (number_in stack.y) && (is_some (number_in stack.x) && true)) _ _ numbers
       record {
@@ -97,7 +99,7 @@ module _ (stack : Stack) (memory : RegisterMap) (y x : ℤ) (in_y : holding_of s
       }
 
   pub reduced : (a b : Ten) → units a ≡ y → units b ≡ x → NearestModulo a b (Ok answer)
-      → Works here 0 (of_y_and_x (values.Remainder Y X)) (Ok result)
+      → Works here 0 (of_y_and_x (OfTwo twos.Remainder Y X)) (Ok result)
   reduced a b a_is b_is nearest =
       holding_true (is_some (number_in stack.y) && (is_some (number_in stack.x) && true)) _ _ numbers
       record { answer = Ok answer; nearest = (a, b, a_is ∙ sym y_is, b_is ∙ sym x_is, nearest); kept = is }
@@ -109,7 +111,7 @@ module _ (stack : Stack) (memory : RegisterMap) (x : ℤ) (in_x : holding_of sta
   only_x = both true (is_some (number_in stack.x)) refl (there (number_in stack.x) x (number_there stack.x x in_x))
 
   -- X^2.
-  pub squared : Nearest (x *ℤ x) one (Ok answer) → Works (with_stack stack memory) 0 (of_x (values.Product X X)) (Ok result)
+  pub squared : Nearest (x *ℤ x) one (Ok answer) → Works (with_stack stack memory) 0 (of_x (OfTwo twos.Product X X)) (Ok result)
   squared nearest =
       holding_true (is_some (number_in stack.x) && (is_some (number_in stack.x) && true)) _ _
       (both (is_some (number_in stack.x)) (is_some (number_in stack.x)) (there (number_in stack.x) x (number_there stack.x x in_x))
@@ -121,7 +123,7 @@ module _ (stack : Stack) (memory : RegisterMap) (x : ℤ) (in_x : holding_of sta
       }
 
   pub made_absolute : Nearest (pos (unsigned_abs x)) 1 (Ok answer)
-      → Works (with_stack stack memory) 0 (of_x (values.AbsoluteValue X)) (Ok result)
+      → Works (with_stack stack memory) 0 (of_x (OfOne ones.AbsoluteValue X)) (Ok result)
   made_absolute nearest =
       holding_true (is_some (number_in stack.x) && true) _ _ only_x
       record {
@@ -133,7 +135,7 @@ module _ (stack : Stack) (memory : RegisterMap) (x : ℤ) (in_x : holding_of sta
 
   -- CHS.
   pub made_negative : Nearest (neg_ℤ x) 1 (Ok answer)
-      → Works (with_stack stack memory) 0 (record lifting_row { value = Some (values.Negative X); takes = compute X ∷ [] }) (Ok result)
+      → Works (with_stack stack memory) 0 (record lifting_row { value = Some (OfOne ones.Negative X); takes = compute X ∷ [] }) (Ok result)
   made_negative nearest =
       holding_true (is_some (number_in stack.x) && true) _ _ only_x
       record {
@@ -141,6 +143,47 @@ module _ (stack : Stack) (memory : RegisterMap) (x : ℤ) (in_x : holding_of sta
         nearest = subst (λ (a : ℤ). Nearest (neg_ℤ a) 1 (Ok answer)) (sym (amount_of stack.x x in_x)) nearest;
         kept = is;
       }
+
+  -- SQRT and 1/X.
+  pub rooted : NearestRoot x (Ok answer) → Works (with_stack stack memory) 0 (of_x (OfOne ones.Root X)) (Ok result)
+  rooted nearest =
+      holding_true (is_some (number_in stack.x) && true) _ _ only_x
+      record {
+        answer = Ok answer;
+        nearest = subst (λ (a : ℤ). NearestRoot a (Ok answer)) (sym (amount_of stack.x x in_x)) nearest;
+        kept = is;
+      }
+
+  pub inverted : NearestQuotient (pos one) x (Ok answer) → Works (with_stack stack memory) 0 (of_x (OfOne ones.Inverse X)) (Ok result)
+  inverted nearest =
+      holding_true (is_some (number_in stack.x) && true) _ _ only_x
+      record {
+        answer = Ok answer;
+        nearest = subst (λ (a : ℤ). NearestQuotient (pos one) a (Ok answer)) (sym (amount_of stack.x x in_x)) nearest;
+        kept = is;
+      }
+
+  -- INT.
+  pub made_whole : (part : ℤ) → IsIntegerPart x part → Nearest part 1 (Ok answer)
+      → Works (with_stack stack memory) 0 (of_x (OfOne ones.IntegerPart X)) (Ok result)
+  made_whole part is_part nearest =
+      holding_true (is_some (number_in stack.x) && true) _ _ only_x
+      record {
+        answer = Ok answer;
+        nearest = (part, subst (λ (a : ℤ). IsIntegerPart a part) (sym (amount_of stack.x x in_x)) is_part, nearest);
+        kept = is;
+      }
+
+  -- SIGN.
+  pub made_unit : Nearest (unit_of x) 1 (Ok answer) → Works (with_stack stack memory) 0 (of_x (OfOne ones.Unit X)) (Ok result)
+  made_unit nearest = record {
+    answer = Ok answer;
+    nearest = subst (λ (a : ℤ). Nearest a 1 (Ok answer)) (sym unit_is) nearest;
+    kept = is;
+  }
+    where
+      unit_is : option_map_or unit_of (worth (holding_of stack.x)) (pos 0) ≡ unit_of x
+      unit_is = ap (λ holding. option_map_or unit_of (worth holding) (pos 0)) in_x
 
 -- Comparisons of X with zero.
 module _ (stack : Stack) (memory : RegisterMap) (x : ℤ) (in_x : holding_of stack.x ≡ Number x) where

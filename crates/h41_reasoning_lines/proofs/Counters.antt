@@ -1,10 +1,11 @@
 -- The counter i.nnn, which counts up to nnn.
-use Rattle.std.proofs.Common.{◌≡◌, ℕ, suc, ◌+◌, ◌*◌, ◌/◌, ◌%◌, ◌^◌, ◌<◌, ◌≤◌, true, false, sym, ap, ◌∙◌, arith}
+use Rattle.std.proofs.Common.{◌≡◌, ℕ, suc, ◌+◌, ◌-◌, ◌*◌, ◌/◌, ◌%◌, ◌^◌, ◌<◌, ◌≤◌, true, false, refl, sym, ap, ◌∙◌, arith}
 use Rattle.std.specs.Prelude.{ℤ, pos, ◌==◌, if◌then◌else◌, int_le, int_lt, unsigned_abs, ◌+ℤ◌, ◌-ℤ◌}
 use Rattle.std.proofs.lemmas.Grind.{common_steps}
 use Rattle.std.proofs.lemmas.Int.{ints}
 use Rattle.h41_decimal.specs.Signs.{sign_of, with_sign}
 use Rattle.h41_decimal.specs.Units.{one, units}
+use Rattle.h41_decimal.specs.WholeParts.{IsIntegerPart}
 use Rattle.h41_decimal.specs.declared.ten.Ten.{Ten}
 use Rattle.h41_rows.specs.Counters.{Down, Up, count_of, counter_after, goes_on, number_after}
 use Rattle.h41_reasoning_lines.proofs.Wholes.{ten_at, whole}
@@ -53,11 +54,14 @@ module _ (i n : ℕ) (few : n < 1000) where
       at_most : (a b : ℕ) → a ≤ b → int_le (pos a) (pos b) ≡ true
       at_most a b order = grind (arith, common_steps)
 
-  pub ends : i ≡ n → goes_on Up (pos (counter i n)) ≡ false
-  ends same = tested ∙ above (i + 1) n (omega (arith, same))
+  pub passes : n < i + 1 → goes_on Up (pos (counter i n)) ≡ false
+  passes less = tested ∙ above (i + 1) n less
     where
       above : (a b : ℕ) → b < a → int_le (pos a) (pos b) ≡ false
       above a b order = grind (arith, common_steps)
+
+  pub ends : i ≡ n → goes_on Up (pos (counter i n)) ≡ false
+  ends same = passes (omega (arith, same))
 
 -- The counter i.nnn, which counts down to nnn.
 module _ (i n : ℕ) (few : n < 1000) where
@@ -77,6 +81,33 @@ module _ (i n : ℕ) (few : n < 1000) where
       ap (λ (z : ℤ). int_lt (pos (counter (suc i) n % one / 10 ^ 105)) z) after_down
       ∙ ap (λ (last : ℕ). int_lt (pos last) (pos i)) (last_is (suc i) n few)
 
+-- The same for a counter whose i is not 0.
+module _ (i n : ℕ) (few : n < 1000) (some : 0 < i) where
+  some_is : suc (i - 1) ≡ i
+  some_is = omega (arith, some)
+
+  pub down_is : number_after Down (pos (counter i n)) ≡ pos (counter (i - 1) n)
+  down_is = ap (λ (k : ℕ). number_after Down (pos (counter k n))) (sym some_is) ∙ number_down (i - 1) n few
+
+  tested_some : goes_on Down (pos (counter i n)) ≡ int_lt (pos n) (pos (i - 1))
+  tested_some = ap (λ (k : ℕ). goes_on Down (pos (counter k n))) (sym some_is) ∙ tested_down (i - 1) n few
+
+  pub continues_down : n < i - 1 → goes_on Down (pos (counter i n)) ≡ true
+  continues_down more = tested_some ∙ below n (i - 1) more
+    where
+      below : (a b : ℕ) → a < b → int_lt (pos a) (pos b) ≡ true
+      below a b less = grind (arith, common_steps)
+
+  pub passes_down : i - 1 ≤ n → goes_on Down (pos (counter i n)) ≡ false
+  passes_down order = tested_some ∙ above n (i - 1) order
+    where
+      above : (a b : ℕ) → b ≤ a → int_lt (pos a) (pos b) ≡ false
+      above a b most = grind (arith, common_steps)
+
+-- The integer part of a counter.
+pub count_is : (i n : ℕ) → n < 1000 → IsIntegerPart (pos (counter i n)) (whole i)
+count_is i n few = record { ones = i; whole = record { not_above = omega (arith, few); next_above = omega (arith, few) }; value = refl }
+
 -- A counter without decimals counts down to 0.
 counter_whole : (i : ℕ) → counter i 0 ≡ i * one
 counter_whole i = omega arith
@@ -88,8 +119,16 @@ number_down_whole i =
 pub tested_down_whole : (i : ℕ) → goes_on Down (whole (suc i)) ≡ int_lt (pos 0) (pos i)
 tested_down_whole i = ap (λ (n : ℕ). goes_on Down (pos n)) (sym (counter_whole (suc i))) ∙ tested_down i 0 (omega arith)
 
+-- ISG of a number without decimals counts up, and the loop ends.
+pub number_up_whole : (i : ℕ) → number_after Up (whole i) ≡ whole (i + 1)
+number_up_whole i =
+    ap (λ (n : ℕ). number_after Up (pos n)) (sym (counter_whole i)) ∙ number_is i 0 (omega arith) ∙ ap pos (counter_whole (i + 1))
+
+pub passes_whole : (i : ℕ) → goes_on Up (whole i) ≡ false
+passes_whole i = ap (λ (n : ℕ). goes_on Up (pos n)) (sym (counter_whole i)) ∙ passes i 0 (omega arith) (omega arith)
+
 -- The decimal of the counter.
-pub counter_ten : (i n : ℕ) → i ≤ 1000 → n < 1000 → (ten : Ten) × (units ten ≡ pos (counter i n))
+pub counter_ten : (i n : ℕ) → i < 10 ^ 7 → n < 1000 → (ten : Ten) × (units ten ≡ pos (counter i n))
 counter_ten i n small few =
     let ten = ten_at (i * 1000 + n) 105 (omega (arith, small, few)) (omega arith) (omega arith) in
     (ten.0, ten.1 ∙ ap pos (omega arith))

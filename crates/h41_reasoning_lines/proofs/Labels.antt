@@ -10,7 +10,8 @@ use Rattle.h41_codes.specs.declared.line.Line.TheVariants.{End}
 use Rattle.h41_program.specs.Lines.{is_end, is_final_end, is_label}
 use Rattle.h41_program.specs.ProgramBytes.{final_position, program_bytes}
 use Rattle.h41_program.specs.ProgramLaws.{ReadIsDetermined}
-use Rattle.h41_program.specs.ProgramLines.{LinesFrom, Reads, behind}
+use Rattle.h41_program.specs.FirstLines.{behind}
+use Rattle.h41_program.specs.ProgramLines.{LinesFrom, Reads}
 use Rattle.h41_program.specs.Searches.{AnswersLocal, end_before, label_in, position_of, start_in}
 use Rattle.h41_program.specs.declared.listed_line.ListedLine.{ListedLine}
 use Rattle.h41_program.proofs.SearchSteps.{label_in-end, label_in-here, label_in-other, none_or, some_or}

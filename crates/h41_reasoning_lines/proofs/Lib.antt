@@ -16,7 +16,9 @@ pub mod Registers
 pub mod DataRegisters
 pub mod ProgramStates
 pub mod ProgramSteps
+pub mod RegisterSteps
 pub mod Errors
 pub mod Calls
 pub mod Counting
+pub mod Loops
 pub mod SignedDecimals

@@ -9,7 +9,8 @@ use Rattle.h41_positions.specs.declared.position.Position.TheVariants.{Memory}
 use Rattle.h41_program.specs.Edits.{lines_of}
 use Rattle.h41_program.specs.Lines.{is_end, is_final_end}
 use Rattle.h41_program.specs.ProgramBytes.{final_position, program_bytes}
-use Rattle.h41_program.specs.ProgramLines.{AnswersNext, FirstFrom, LinesFrom, PositionFrom, Reads, behind}
+use Rattle.h41_program.specs.FirstLines.{FirstFrom, behind}
+use Rattle.h41_program.specs.ProgramLines.{AnswersNext, LinesFrom, PositionFrom, Reads}
 use Rattle.h41_program.specs.declared.listed_line.ListedLine.{ListedLine}
 use Rattle.h41_program.proofs.Depends as depends
 use Rattle.h41_ram.specs.RamState.{SameProgram}

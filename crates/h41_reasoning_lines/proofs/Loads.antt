@@ -14,7 +14,8 @@ use Rattle.h41_program.specs.Lines.{is_end, is_final_end}
 use Rattle.h41_program.specs.Packing.{last_line}
 use Rattle.h41_program.specs.ProgramBytes.{final_position, program_bytes}
 use Rattle.h41_program.specs.ProgramLaws.{LeavesLoaded, ListsAreDetermined, LoadIsRead, ReadIsDetermined}
-use Rattle.h41_program.specs.ProgramLines.{LinesFrom, Reads, behind}
+use Rattle.h41_program.specs.FirstLines.{behind}
+use Rattle.h41_program.specs.ProgramLines.{LinesFrom, Reads}
 use Rattle.h41_program.specs.Rewriting.{HasOutcome, with_program_lines}
 use Rattle.h41_program.specs.Searches.{start_in}
 use Rattle.h41_program.specs.declared.listed_line.ListedLine.{ListedLine}

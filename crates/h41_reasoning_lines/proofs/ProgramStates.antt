@@ -7,7 +7,7 @@ use Rattle.std.proofs.lemmas.Bool.Decides.{nat_tests}
 use Rattle.h41_program.proofs.Sound.{bounds}
 use Rattle.h41_ram.specs.NamedRegisters.{data_address, size_of}
 use Rattle.h41_ram.specs.RamState.{SameProgram}
-use Rattle.h41_ram.specs.RegisterMap.{RegisterMap, bit_of, c_of, curtain_of, d_of, end_of, flag_of, is_sound, main_start, register_at}
+use Rattle.h41_ram.specs.RegisterMap.{RegisterMap, bit_of, c_of, curtain_of, flag_of, is_sound, main_start, register_at}
 use Rattle.h41_ram.specs.RegisterMap.{status_end, three_digits, with_register, zeros}
 use Rattle.h41_reasoning_lines.specs.ProgramStates.{HasBecome, data_in, with_content}
 use Rattle.h41_reasoning_lines.specs.Stacks.{Stack, stack_of, with_stack}

@@ -1,5 +1,6 @@
 -- What a line does to memory as theorems about programs describe it: the line continues, and memory has become this.
-use Rattle.std.proofs.Common.{◌≡◌, ℕ, ◌<◌, Bool, true, false, List, [], ◌∷◌, Some, None, Result, Ok, Err, refl, sym, ap, ◌∙◌, subst, length}
+use Rattle.std.proofs.Common.{◌≡◌, ℕ, ◌<◌, Bool, true, false, List, [], ◌∷◌, Some, None, Result, Ok, Err, refl, sym, ap, ◌∙◌}
+use Rattle.std.proofs.Common.{subst, arith, length}
 use Rattle.std.specs.Prelude.{if◌then◌else◌, pos}
 use Rattle.h41_codes.specs.declared.characters.Character.{Character}
 use Rattle.h41_codes.specs.declared.functions.Function.{Function}
@@ -7,9 +8,11 @@ use Rattle.h41_codes.specs.declared.functions.Function.TheVariants as functions
 use Rattle.h41_codes.specs.declared.functions.RegisterFunction.TheVariants.{RecallRegister, StoreRegister}
 use Rattle.h41_codes.specs.declared.line.Line.{Line}
 use Rattle.h41_codes.specs.declared.line.Line.TheVariants as lines
+use Rattle.h41_decimal.specs.Laws.{DecimalIsItsNearest}
 use Rattle.h41_decimal.specs.Units.{units}
+use Rattle.h41_decimal.specs.declared.sign.Sign.TheVariants.{Plus}
 use Rattle.h41_decimal.specs.declared.ten.Ten.{Ten}
-use Rattle.h41_decimal.specs.declared.ten.Ten.TheVariants.{Zero}
+use Rattle.h41_decimal.specs.declared.ten.Ten.TheVariants.{Nonzero, Zero}
 use Rattle.h41_focal.specs.Destinations.{Arrives}
 use Rattle.h41_focal.specs.LineStep.{Left, StepsLine, Works, error_flag, left_done, left_failed, with_fault_caught}
 use Rattle.h41_focal.specs.declared.refusal.FocalRefusal.{FocalRefusal}
@@ -28,9 +31,9 @@ use Rattle.h41_rows.specs.Operands.{data_register}
 use Rattle.h41_rows.specs.Places.{X, are_numbers}
 use Rattle.h41_rows.specs.RowEffects.{holds_in}
 use Rattle.h41_rows.specs.Rows as rows
-use Rattle.h41_rows.specs.Values.{IsRegisterOf, Value}
-use Rattle.h41_rows.specs.Values as values
+use Rattle.h41_rows.specs.Values.{IsRegisterOf, OfOne, Value}
 use Rattle.h41_rows.specs.declared.fault.LineFault.{LineFault}
+use Rattle.h41_rows.specs.declared.values.ValueOfOne.TheVariants as ones
 use Rattle.h41_reasoning_lines.specs.LineRuns.{Continues}
 use Rattle.h41_reasoning_lines.specs.ProgramStates.{HasBecome, with_content}
 use Rattle.h41_reasoning_lines.specs.Stacks.{Stack, with_stack}
@@ -52,6 +55,14 @@ pub own_lifted : (s : Machine) (at : ℕ) → s.focal.position ≡ Memory at →
     → before_line s.memory at s.focal.at_line_00 s.focal.returns true ≡ s
 own_lifted s at place on =
     ap (λ (lift : Bool). before_line s.memory at s.focal.at_line_00 s.focal.returns lift) (sym on) ∙ own_place s at place
+
+-- The decimal of PI.
+abbrev pub pi_ten : Ten
+pi_ten =
+    Nonzero Plus record {
+      mantissa = record { digits = 3141592654; at_least = omega arith; below = omega arith };
+      exponent = record { biased = 99; in_range = omega arith };
+    }
 
 -- The stack after a register has come into X, with stack lift on and off.
 abbrev pub coming : Bool → Stack → List ℕ → Stack
@@ -162,6 +173,25 @@ module _ (pages : PageMap) (old : RegisterMap) (sixteen : length old.status ≡ 
       (plain pages same at next zero returns false functions.LastX _ _ refl (there _ at next line)
       (Ok zeros, refl, (Arrives (Memory next) returns, refl, refl)))
 
+  -- PI.
+  module _ (itself : DecimalIsItsNearest) (register : List ℕ) (is_register : IsRegisterOf (units pi_ten) register)
+      (line : IsLineAt old at (lines.Plain functions.Pi) next) where
+    pub recalls_pi : (lift : Bool) → Reaches pages old (before lift) (coming lift stack register) contents next returns true
+    recalls_pi true =
+        by_stack true (coming true stack register) next true
+        (plain pages same at next zero returns true functions.Pi _ _ refl (there _ at next line) (
+          Ok register,
+          record { answer = Ok pi_ten; nearest = itself pi_ten; kept = is_register },
+          (Arrives (Memory next) returns, refl, refl),
+        ))
+    recalls_pi false =
+        by_stack false (coming false stack register) next true
+        (plain pages same at next zero returns false functions.Pi _ _ refl (there _ at next line) (
+          Ok register,
+          record { answer = Ok pi_ten; nearest = itself pi_ten; kept = is_register },
+          (Arrives (Memory next) returns, refl, refl),
+        ))
+
   module _ (lift : Bool) where
     pub stores : (n : ℕ) → n < size_of old → IsLineAt old at (lines.Register StoreRegister n) next
         → Reaches pages old (before lift) stack (with_content contents n stack.x) next returns true
@@ -222,12 +252,12 @@ module _ (pages : PageMap) (old : RegisterMap) (sixteen : length old.status ≡ 
 
     -- CHS, which leaves LAST X unchanged, and CLX, which turns stack lift off.
     pub changes_sign : (result : List ℕ) → IsLineAt old at (lines.Plain functions.ChangeSign) next
-        → Works same 0 (record rows.lifting_row { value = Some (values.Negative X); takes = rows.compute X ∷ [] }) (Ok result)
+        → Works same 0 (record rows.lifting_row { value = Some (OfOne ones.Negative X); takes = rows.compute X ∷ [] }) (Ok result)
         → Reaches pages old (before lift) (record stack { x = result }) contents next returns true
     changes_sign result line works =
         by_stack lift (record stack { x = result }) next true
         (plain pages same at next zero returns lift functions.ChangeSign
-        (record rows.lifting_row { value = Some (values.Negative X); takes = rows.compute X ∷ [] }) _ refl (there _ at next line)
+        (record rows.lifting_row { value = Some (OfOne ones.Negative X); takes = rows.compute X ∷ [] }) _ refl (there _ at next line)
         (Ok result, works, (Arrives (Memory next) returns, refl, refl)))
 
     pub clears_x : (register : List ℕ) → IsRegisterOf (pos 0) register → IsLineAt old at (lines.Plain functions.ClearX) next
@@ -235,6 +265,17 @@ module _ (pages : PageMap) (old : RegisterMap) (sixteen : length old.status ≡ 
     clears_x register is_register line =
         by_stack lift (record stack { x = register }) next false
         (plain pages same at next zero returns lift functions.ClearX _ _ refl (there _ at next line) (
+          Ok register,
+          record { answer = Ok Zero; nearest = refl; kept = is_register },
+          (Arrives (Memory next) returns, refl, refl),
+        ))
+
+    pub clears_stack : (register : List ℕ) → IsRegisterOf (pos 0) register → IsLineAt old at (lines.Plain functions.ClearStack) next
+        → Reaches pages old (before lift) (record { t = register; z = register; y = register; x = register; last = stack.last }) contents
+        next returns true
+    clears_stack register is_register line =
+        by_stack lift (record { t = register; z = register; y = register; x = register; last = stack.last }) next true
+        (plain pages same at next zero returns lift functions.ClearStack _ _ refl (there _ at next line) (
           Ok register,
           record { answer = Ok Zero; nearest = refl; kept = is_register },
           (Arrives (Memory next) returns, refl, refl),

@@ -8,7 +8,8 @@ use Rattle.h41_program.specs.Edits.{lines_of}
 use Rattle.h41_program.specs.Lines.{is_end, is_final_end, is_label}
 use Rattle.h41_program.specs.ProgramBytes.{final_position, program_bytes}
 use Rattle.h41_program.specs.ProgramLaws.{ReadIsDetermined}
-use Rattle.h41_program.specs.ProgramLines.{AnswersOf, PositionBehind, PositionFrom, Reads, behind}
+use Rattle.h41_program.specs.FirstLines.{behind}
+use Rattle.h41_program.specs.ProgramLines.{AnswersOf, PositionBehind, PositionFrom, Reads}
 use Rattle.h41_program.specs.Searches.{AnswersLocal, label_in, position_of, start_in}
 use Rattle.h41_program.specs.declared.listed_line.ListedLine.{ListedLine}
 use Rattle.h41_program.proofs.Depends as depends

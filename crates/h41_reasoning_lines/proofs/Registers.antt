@@ -27,11 +27,11 @@ use Rattle.h41_positions.specs.declared.position.Position.{Position}
 use Rattle.h41_positions.specs.declared.position.Position.TheVariants.{Memory}
 use Rattle.h41_ram.specs.NamedRegisters.{data_address, size_of}
 use Rattle.h41_ram.specs.RegisterMap.{RegisterMap, register_at, with_register, zeros}
-use Rattle.h41_rows.specs.Counters.{Way, goes_on, number_after}
+use Rattle.h41_rows.specs.Counters.{Way, Up, Down, goes_on, number_after}
 use Rattle.h41_rows.specs.LineRows.{into_register, loop, register_row, short_row}
 use Rattle.h41_rows.specs.Operands.{Address, Meant, RegisterKind, address_of, data_register, Kind, kind_of, meant_as, meant_of}
 use Rattle.h41_rows.specs.Operands.{parameter_register, then_find, whole_at, whole_of}
-use Rattle.h41_rows.specs.Places.{Named, X}
+use Rattle.h41_rows.specs.Places.{Named, X, amount_in}
 use Rattle.h41_rows.specs.Profile.{is_left_out, is_parameter_left_out}
 use Rattle.h41_rows.specs.RowEffects.{holds_in}
 use Rattle.h41_rows.specs.Rows as rows
@@ -234,16 +234,18 @@ module _ (memory : RegisterMap) (address : ℕ) (way : Way) (x : ℤ) (holds : h
 
   pub counted : (answer : Ten) (result : List ℕ) → IsRegisterOf (units answer) result → Nearest (number_after way x) 1 (Ok answer)
       → Works memory address (loop way) (Ok result)
-  counted answer result is nearest =
-      holding_true
-      (is_some (number_in (register_at memory address)) && (is_some (number_in (register_at memory address)) && true)) _ _
-      (both (is_some (number_in (register_at memory address))) (is_some (number_in (register_at memory address))) one_there one_there)
-      record {
-        answer = Ok answer;
-        nearest =
-            subst (λ (a : ℤ). Nearest (number_after way a) 1 (Ok answer)) (sym (amount_of (register_at memory address) x holds)) nearest;
-        kept = is;
-      }
+  counted answer result is nearest = works way (subst (λ (a : ℤ). Nearest (number_after way a) 1 (Ok answer)) (sym amount) nearest)
+    where
+      amount : amount_in memory address Named ≡ x
+      amount = amount_of (register_at memory address) x holds
+
+      twice : (is_some (number_in (register_at memory address)) && (is_some (number_in (register_at memory address)) && true)) ≡ true
+      twice = both (is_some (number_in (register_at memory address))) (is_some (number_in (register_at memory address))) one_there one_there
+
+      works : (way : Way) → Nearest (number_after way (amount_in memory address Named)) 1 (Ok answer)
+          → Works memory address (loop way) (Ok result)
+      works Up nearest = holding_true _ _ _ twice record { answer = Ok answer; nearest = nearest; kept = is }
+      works Down nearest = holding_true _ _ _ twice record { answer = Ok answer; nearest = nearest; kept = is }
 
   -- Whether the loop continues.
   pub tells_loop : holds_in memory address (rows.Loops way Named) ≡ goes_on way x

@@ -1,19 +1,22 @@
 -- Lines that compute with whole numbers of up to ten digits: the results are exact, and tests compare the whole numbers.
-use Rattle.std.proofs.Common.{◌≡◌, ℕ, ◌+◌, ◌-◌, ◌*◌, ◌^◌, ◌<◌, ◌≤◌, true, false, List, Ok, refl, sym, ap, ◌∙◌, subst, arith}
+use Rattle.std.proofs.Common.{◌≡◌, ℕ, ◌+◌, ◌-◌, ◌*◌, ◌/◌, ◌%◌, ◌^◌, ◌<◌, ◌≤◌, true, false, List, Ok, inl, mod-lt, refl, sym, ap, ◌∙◌, subst}
+use Rattle.std.proofs.Common.{arith}
 use Rattle.std.specs.Prelude.{ℤ, pos, ◌+ℤ◌, ◌-ℤ◌, int_le, int_lt, bytes_eq}
 use Rattle.std.proofs.lemmas.Bool.{false_from_ne_true}
 use Rattle.std.proofs.lemmas.Grind.{common_steps}
 use Rattle.std.proofs.lemmas.Int.{ints}
+use Rattle.std.proofs.lemmas.Nat.{div-add-mod'}
 use Rattle.std.proofs.lemmas.Slice.Eq.{bytes_eq-Decides}
 use Rattle.h41_decimal.specs.Holding.{Number, holding_of}
 use Rattle.h41_decimal.specs.Laws.{DecimalIsItsNearest, RegisterIsDetermined}
 use Rattle.h41_decimal.specs.NearestDecimal.{Nearest}
 use Rattle.h41_decimal.specs.Units.{one, units}
+use Rattle.h41_decimal.specs.WholeParts.{IsIntegerPart}
 use Rattle.h41_decimal.specs.declared.ten.Ten.{Ten}
 use Rattle.h41_ram.specs.RegisterMap.{zeros}
 use Rattle.h41_rows.specs.Values.{IsRegisterOf}
 use Rattle.h41_reasoning_lines.proofs.Scales.{scaled}
-use Rattle.h41_reasoning_lines.proofs.Wholes.{whole, zeros_register}
+use Rattle.h41_reasoning_lines.proofs.Wholes.{IsRemainder, whole, zeros_register}
 
 module _ (itself : DecimalIsItsNearest) where
   -- A number line of digits, after which the exponent is zero.
@@ -21,6 +24,18 @@ module _ (itself : DecimalIsItsNearest) where
   typed_whole k ten some is =
       scaled (k * one) (10 ^ 99) ten (omega (arith, some)) (omega arith)
       (subst (λ (z : ℤ). Nearest z 1 (Ok ten)) is (itself ten))
+
+  -- The number line 0.
+  pub typed_zero : (ten : Ten) → units ten ≡ whole 0 → Nearest (pos (0 * one * 10 ^ 99)) (10 ^ 99) (Ok ten)
+  typed_zero ten is = subst (λ (z : ℤ). Nearest z 1 (Ok ten)) is (itself ten)
+
+  -- A number line with decimals, whose number is n units.
+  pub typed_decimals : (digits places n : ℕ) (ten : Ten) → 0 < n * (10 ^ places * 10 ^ 99) → 0 < 10 ^ places * 10 ^ 99
+      → n * (10 ^ places * 10 ^ 99) ≡ digits * one * 10 ^ 99 → units ten ≡ pos n
+      → Nearest (pos (digits * one * 10 ^ 99)) (10 ^ places * 10 ^ 99) (Ok ten)
+  typed_decimals digits places n ten some factor same is =
+      subst (λ (m : ℕ). Nearest (pos m) (10 ^ places * 10 ^ 99) (Ok ten)) same
+      (scaled n (10 ^ places * 10 ^ 99) ten some factor (subst (λ (z : ℤ). Nearest z 1 (Ok ten)) is (itself ten)))
 
   -- Sums and differences.
   pub sum_whole : (a b : ℕ) (ten : Ten) → units ten ≡ whole (a + b) → Nearest (whole a +ℤ whole b) 1 (Ok ten)
@@ -77,3 +92,11 @@ is_some register n some is =
     let number_is : whole n ≡ pos 0 = number_of (whole n) (pos 0) (sym is.holds ∙ ap holding_of same) in
     let size_is : n * one ≡ 0 = omega (arith, ints, number_is) in
     omega (arith, size_is, some))
+
+-- The integer part of a whole number is the number itself.
+pub whole_part : (n : ℕ) → IsIntegerPart (whole n) (whole n)
+whole_part n = record { ones = n; whole = record { not_above = omega arith; next_above = omega arith }; value = refl }
+
+-- A whole number divided by another one, which is not zero.
+pub whole_remainder : (a b : ℕ) → 0 < b → IsRemainder a b (a / b) (a % b)
+whole_remainder a b some = record { parts = sym (div-add-mod' a b); least = inl (mod-lt a some) }

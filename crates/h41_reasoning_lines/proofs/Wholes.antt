@@ -106,10 +106,11 @@ times_one a b quotient rest parts =
     let product : a * one ≡ (quotient * b + rest) * one = ap (λ (n : ℕ). n * one) parts in
     omega (arith, product)
 
-module _ (itself : DecimalIsItsNearest) (injective : UnitsAreInjective) (a b quotient rest : ℕ) (is : IsRemainder a b quotient rest)
-    (A B R : Ten) (A_is : units A ≡ whole a) (B_is : units B ≡ whole b) (R_is : units R ≡ whole rest) where
-  by_some : rest < b → NearestModulo A B (Ok R)
-  by_some less =
+module _ (itself : DecimalIsItsNearest) (a b quotient rest : ℕ) (is : IsRemainder a b quotient rest) (A B R : Ten)
+    (A_is : units A ≡ whole a) (B_is : units B ≡ whole b) (R_is : units R ≡ whole rest) where
+  -- The result of MOD, if the divisor is not zero.
+  pub modulo_some : rest < b → NearestModulo A B (Ok R)
+  modulo_some less =
       let some : 0 < b * one = omega (arith, less) in
       let rounds : RoundsRest (whole a) (whole b) (Ok R) =
       rest_of_same Plus (a * one) (b * one) quotient (rest * one) (Ok R) (times_one a b quotient rest is.parts) (omega (arith, less))
@@ -120,6 +121,8 @@ module _ (itself : DecimalIsItsNearest) (injective : UnitsAreInjective) (a b quo
       not_zero (Ok R ≡ Ok A) (RoundsRest (units A) (units B) (Ok R)) (unsigned_abs (units B))
       (subst (λ (n : ℤ). 0 < unsigned_abs n) (sym B_is) some) both
 
+module _ (itself : DecimalIsItsNearest) (injective : UnitsAreInjective) (a b quotient rest : ℕ) (is : IsRemainder a b quotient rest)
+    (A B R : Ten) (A_is : units A ≡ whole a) (B_is : units B ≡ whole b) (R_is : units R ≡ whole rest) where
   by_zero : b ≡ 0 → NearestModulo A B (Ok R)
   by_zero none =
       let same : rest ≡ a = (let product = ap (λ (n : ℕ). quotient * n) none in omega (arith, is.parts, product)) in
@@ -132,7 +135,11 @@ module _ (itself : DecimalIsItsNearest) (injective : UnitsAreInjective) (a b quo
 
   -- The result of MOD.
   pub modulo_whole : NearestModulo A B (Ok R)
-  modulo_whole = elim is.least [ inl less ↦ by_some less | inr none ↦ by_zero none ]
+  modulo_whole =
+      elim is.least [
+        | inl less ↦ modulo_some itself a b quotient rest is A B R A_is B_is R_is less
+        | inr none ↦ by_zero none
+      ]
 
 -- A register of zeros contains zero.
 zeros_number : holding_of zeros ≡ Number (pos 0)

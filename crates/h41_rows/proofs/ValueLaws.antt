@@ -14,6 +14,7 @@ use Rattle.h41_decimal.specs.Signs.{with_sign}
 use Rattle.h41_decimal.specs.Units.{one, units}
 use Rattle.h41_decimal.specs.declared.fault.DecimalFault.{DecimalFault}
 use Rattle.h41_decimal.specs.declared.fault.DecimalFault.TheVariants.{Data, Range}
+use Rattle.h41_decimal.specs.declared.places.Places.{Places}
 use Rattle.h41_decimal.specs.declared.sign.Sign.{Sign}
 use Rattle.h41_decimal.specs.declared.ten.Ten.{Ten}
 use Rattle.h41_ram.specs.NamedFlags.{range_ignore}
@@ -21,17 +22,20 @@ use Rattle.h41_ram.specs.RegisterMap.{RegisterMap, d_address, flag_of, register_
 use Rattle.h41_show.specs.DisplayFormat.{format_of}
 use Rattle.h41_numbers.specs.NumberLaws.{NumbersAreDetermined}
 use Rattle.h41_numbers.specs.NumberLines.{IsNumberOf}
-use Rattle.h41_rows.specs.Computing.{WorksOn, value_of_one, value_of_two}
-use Rattle.h41_rows.specs.Counters.{number_after}
+use Rattle.h41_rows.specs.Computing.{WorksOn}
+use Rattle.h41_rows.specs.Counters.{Up, Down, number_after}
 use Rattle.h41_rows.specs.Places.{Named, X, Y, amount_in, are_numbers, register_in}
 use Rattle.h41_rows.specs.RowEffects.{holds_in}
 use Rattle.h41_rows.specs.RowLaws.{AlwaysIsDetermined, OneIsDetermined, TestIsDetermined, TwoIsDetermined, ValuesAreDetermined}
 use Rattle.h41_rows.specs.Rows.{places_in_condition, places_in_value}
-use Rattle.h41_rows.specs.Values.{Computes, Counted, Difference, Displayed, Fraction, Given, IntegerPart, Inverse, IsRegisterOf, IsValue}
-use Rattle.h41_rows.specs.Values.{Kept, Negative, Percentage, Product, Quotient, Remainder, Root, AbsoluteValue, Sum, Unit, Value, Written}
+use Rattle.h41_rows.specs.Values.{Computes, Given, IsOfOne, IsOfTwo, IsRegisterOf, IsValue, Kept, OfOne, OfTwo, Value, Written}
 use Rattle.h41_rows.specs.Values.{places_of, sign_of_value, unit_of}
 use Rattle.h41_rows.specs.declared.fault.LineFault.{LineFault}
 use Rattle.h41_rows.specs.declared.fault.LineFault.TheVariants.{AlphaData}
+use Rattle.h41_rows.specs.declared.values.ValueOfOne.{ValueOfOne}
+use Rattle.h41_rows.specs.declared.values.ValueOfOne.TheVariants as ones
+use Rattle.h41_rows.specs.declared.values.ValueOfTwo.{ValueOfTwo}
+use Rattle.h41_rows.specs.declared.values.ValueOfTwo.TheVariants as twos
 
 -- The number of a number line.
 module _ (same_number : NumbersAreDetermined) where
@@ -47,38 +51,47 @@ module _
     (same_number : NumbersAreDetermined) (same_units : UnitsAreInjective)
     (same_quotient : QuotientIsDetermined) (same_modulo : ModuloIsDetermined)
     (same_steps : StepsAreDetermined) where
-  same_answer : (value : Value) (memory : RegisterMap) (named : ℕ) (x y : Result Ten DecimalFault)
-      → IsValue value memory named x → IsValue value memory named y → x ≡ y
-  same_answer (Given number) memory named x y p q = same_nearest number 1 x y p q
-  same_answer (Written characters) memory named x y p q = same_written same_number characters x y p q
-  same_answer (Sum a b) memory named x y p q = same_nearest (amount_in memory named a +ℤ amount_in memory named b) 1 x y p q
-  same_answer (Difference a b) memory named x y p q = same_nearest (amount_in memory named a -ℤ amount_in memory named b) 1 x y p q
-  same_answer (Product a b) memory named x y p q = same_nearest (amount_in memory named a *ℤ amount_in memory named b) one x y p q
-  same_answer (Quotient a b) memory named x y p q = same_quotient (amount_in memory named a) (amount_in memory named b) x y p q
-  same_answer (Remainder a b) memory named x y p q =
+  same_of_one : (value : ValueOfOne) (places : Places) (number : ℤ) (x y : Result Ten DecimalFault)
+      → IsOfOne value places number x → IsOfOne value places number y → x ≡ y
+  same_of_one ones.Root places number x y p q = same_root number x y p q
+  same_of_one ones.Inverse places number x y p q = same_quotient (pos one) number x y p q
+  same_of_one ones.Negative places number x y p q = same_nearest (neg_ℤ number) 1 x y p q
+  same_of_one ones.AbsoluteValue places number x y p q = same_nearest (pos (unsigned_abs number)) 1 x y p q
+  same_of_one ones.IntegerPart places number x y p q =
+      let part : p.0 ≡ q.0 = same_part number p.0 q.0 p.1 q.1 in
+      same_nearest q.0 1 x y (subst (λ of. Nearest of 1 x) part p.2) q.2
+  same_of_one ones.Fraction places number x y p q =
+      let rest : p.0 ≡ q.0 = same_fraction number p.0 q.0 p.1 q.1 in
+      same_nearest q.0 1 x y (subst (λ of. Nearest of 1 x) rest p.2) q.2
+  same_of_one ones.Displayed places number x y p q =
+      let decimal : p.0 ≡ q.0 = same_units p.0 q.0 (p.1 ∙ sym q.1) in
+      same_steps (step_of places q.0) (units q.0) x y (subst (λ of. RoundsTo (step_of places of) (units of) x) decimal p.2) q.2
+  same_of_one ones.Unit places number x y p q = same_nearest (unit_of number) 1 x y p q
+  same_of_one ones.CountedUp places number x y p q = same_nearest (number_after Up number) 1 x y p q
+  same_of_one ones.CountedDown places number x y p q = same_nearest (number_after Down number) 1 x y p q
+
+  same_of_two : (value : ValueOfTwo) (first second : ℤ) (x y : Result Ten DecimalFault)
+      → IsOfTwo value first second x → IsOfTwo value first second y → x ≡ y
+  same_of_two twos.Sum first second x y p q = same_nearest (first +ℤ second) 1 x y p q
+  same_of_two twos.Difference first second x y p q = same_nearest (first -ℤ second) 1 x y p q
+  same_of_two twos.Product first second x y p q = same_nearest (first *ℤ second) one x y p q
+  same_of_two twos.Quotient first second x y p q = same_quotient first second x y p q
+  same_of_two twos.Remainder first second x y p q =
       let above : p.0 ≡ q.0 = same_units p.0 q.0 (p.2 ∙ sym q.2) in
       let below : p.1 ≡ q.1 = same_units p.1 q.1 (p.3 ∙ sym q.3) in
       let other : NearestModulo q.0 q.1 x = subst (λ of. NearestModulo q.0 of x) below (subst (λ of. NearestModulo of p.1 x) above p.4) in
       same_modulo q.0 q.1 x y other q.4
-  same_answer (Percentage a b) memory named x y p q =
-      same_nearest (amount_in memory named a *ℤ amount_in memory named b) (100 * one) x y p q
-  same_answer (Root a) memory named x y p q = same_root (amount_in memory named a) x y p q
-  same_answer (Inverse a) memory named x y p q = same_quotient (pos one) (amount_in memory named a) x y p q
-  same_answer (Negative a) memory named x y p q = same_nearest (neg_ℤ (amount_in memory named a)) 1 x y p q
-  same_answer (AbsoluteValue a) memory named x y p q = same_nearest (pos (unsigned_abs (amount_in memory named a))) 1 x y p q
-  same_answer (IntegerPart a) memory named x y p q =
-      let part : p.0 ≡ q.0 = same_part (amount_in memory named a) p.0 q.0 p.1 q.1 in
-      same_nearest q.0 1 x y (subst (λ of. Nearest of 1 x) part p.2) q.2
-  same_answer (Fraction a) memory named x y p q =
-      let rest : p.0 ≡ q.0 = same_fraction (amount_in memory named a) p.0 q.0 p.1 q.1 in
-      same_nearest q.0 1 x y (subst (λ of. Nearest of 1 x) rest p.2) q.2
-  same_answer (Displayed a) memory named x y p q =
-      let number : p.0 ≡ q.0 = same_units p.0 q.0 (p.1 ∙ sym q.1) in
-      same_steps (step_of (places_of (format_of memory)) q.0) (units q.0) x y
-      (subst (λ of. RoundsTo (step_of (places_of (format_of memory)) of) (units of) x) number p.2) q.2
-  same_answer (Unit a) memory named x y p q =
+  same_of_two twos.Percentage first second x y p q = same_nearest (first *ℤ second) (100 * one) x y p q
+
+  same_answer : (value : Value) (memory : RegisterMap) (named : ℕ) (x y : Result Ten DecimalFault)
+      → IsValue value memory named x → IsValue value memory named y → x ≡ y
+  same_answer (Given number) memory named x y p q = same_nearest number 1 x y p q
+  same_answer (Written characters) memory named x y p q = same_written same_number characters x y p q
+  same_answer (OfOne ones.Unit a) memory named x y p q =
       same_nearest (option_map_or unit_of (worth (holding_of (register_in memory named a))) (pos 0)) 1 x y p q
-  same_answer (Counted way a) memory named x y p q = same_nearest (number_after way (amount_in memory named a)) 1 x y p q
+  same_answer (OfOne value a) memory named x y p q =
+      same_of_one value (places_of (format_of memory)) (amount_in memory named a) x y p q
+  same_answer (OfTwo value a b) memory named x y p q = same_of_two value (amount_in memory named a) (amount_in memory named b) x y p q
 
 -- The register of a result.
 module _ (same_register : RegisterIsDetermined) where
@@ -151,12 +164,12 @@ module _
 
   pub one_determined : OneIsDetermined
   one_determined value memory address a b p q =
-      works_determined memory address (value_of_one value Named) a b (p address Named refl) (q address Named refl)
+      works_determined memory address (OfOne value Named) a b (p address Named refl) (q address Named refl)
 
   pub two_determined : TwoIsDetermined
   two_determined value memory first second a b p q =
       let other : RegisterMap = with_two memory (register_at memory first) (register_at memory second) in
-      works_determined other 0 (value_of_two value Y X) a b (p other 0 Y X refl refl refl) (q other 0 Y X refl refl refl)
+      works_determined other 0 (OfTwo value Y X) a b (p other 0 Y X refl refl refl) (q other 0 Y X refl refl refl)
 
   pub always_determined : AlwaysIsDetermined
   always_determined value register other p q =

@@ -1,31 +1,27 @@
 -- What is computed from the registers at addresses is computed from the places with these addresses.
 use Rattle.std.proofs.Common.{◌≡◌, ℕ, sym, ◌∙◌, ap, refl, subst, Bool, true, false, MatchBool, IsOkAnd, List, [], ◌∷◌, Option, Some, None}
 use Rattle.std.proofs.Common.{Result, Ok, Err}
-use Rattle.std.specs.Prelude.{ℤ, pos, neg_ℤ, ◌+ℤ◌, ◌-ℤ◌, ◌*ℤ◌, ◌*◌, unsigned_abs, is_some, ◌&&◌, ◌==◌, if◌then◌else◌, slice_index}
+use Rattle.std.specs.Prelude.{ℤ, pos, is_some, ◌&&◌, ◌==◌, if◌then◌else◌, slice_index}
 use Rattle.std.specs.Option.{option_map_or}
 use Rattle.h41_decimal.specs.Holding.{Holding, Text, Other, holding, holding_of, number_in, text_in, worth}
-use Rattle.h41_decimal.specs.NearestDecimal.{Nearest, NearestRoot}
-use Rattle.h41_decimal.specs.Operations.{NearestQuotient, RoundsTo, step_of}
-use Rattle.h41_decimal.specs.Signs.{sign_of}
-use Rattle.h41_decimal.specs.Units.{one, units}
-use Rattle.h41_decimal.specs.WholeParts.{IsFraction, IsIntegerPart}
+use Rattle.h41_decimal.specs.NearestDecimal.{Nearest}
+use Rattle.h41_decimal.specs.Units.{units}
+use Rattle.h41_decimal.specs.declared.fault.DecimalFault.{DecimalFault}
 use Rattle.h41_decimal.specs.declared.places.Places.{Places}
 use Rattle.h41_decimal.specs.declared.ten.Ten.{Ten}
 use Rattle.h41_ram.specs.NamedFlags.{range_ignore}
 use Rattle.h41_ram.specs.RegisterMap.{RegisterMap, flag_of, register_at}
+use Rattle.h41_show.specs.DisplayFormat.{format_of}
 use Rattle.h41_rows.specs.private.Answers.{KeptOne, KeptTwo, RoundsAt, WithoutNumber, WorksOnRegister, WorksOnRegisters}
-use Rattle.h41_rows.specs.Computing.{IsAlways, WorksOn, WorksOnOne, value_of_one, value_of_two}
-use Rattle.h41_rows.specs.Counters.{Up, Down, number_after}
+use Rattle.h41_rows.specs.Computing.{IsAlways, WorksOn, WorksOnOne}
 use Rattle.h41_rows.specs.Places.{RowPlace, amount_in, are_numbers, place_address, register_in}
-use Rattle.h41_rows.specs.Rows.{places_in_value}
-use Rattle.h41_rows.specs.Values as values
-use Rattle.h41_rows.specs.Values.{Given, Computes, Kept, unit_of}
+use Rattle.h41_rows.specs.Values.{Given, OfOne, OfTwo, Computes, IsOfOne, IsOfTwo, IsValue, Kept, places_of}
+use Rattle.h41_rows.specs.Values.{sign_of_one, sign_of_two, unit_of}
 use Rattle.h41_rows.specs.declared.fault.LineFault.{LineFault}
 use Rattle.h41_rows.specs.declared.fault.LineFault.TheVariants.{AlphaData}
 use Rattle.h41_rows.specs.declared.values.ValueOfOne.{ValueOfOne}
 use Rattle.h41_rows.specs.declared.values.ValueOfOne.TheVariants as ones
 use Rattle.h41_rows.specs.declared.values.ValueOfTwo.{ValueOfTwo}
-use Rattle.h41_rows.specs.declared.values.ValueOfTwo.TheVariants as twos
 
 -- A test that is true, and one that is false.
 pub where_true : (test : Bool) (A B : Type 0) → test ≡ true → A → MatchBool test A B
@@ -76,51 +72,28 @@ number_there register other named a number e w =
     number_of other named a (place_address named a) number refl (held_there register other named a number e w)
 
 -- A value of one place.
+is_of_one : (value : ValueOfOne) (memory : RegisterMap) (named : ℕ) (a : RowPlace) (number : ℤ) (places : Places)
+    (answer : Result Ten DecimalFault)
+    → number ≡ amount_in memory named a → worth (holding_of (register_in memory named a)) ≡ Some number
+    → RoundsAt value memory places → IsOfOne value places number answer → IsValue (OfOne value a) memory named answer
+is_of_one ones.Displayed memory named a number places answer e w at is =
+    subst (λ (t : ℤ). IsOfOne ones.Displayed (places_of (format_of memory)) t answer) e
+    (subst (λ (rounded : Places). IsOfOne ones.Displayed rounded number answer) at is)
+is_of_one ones.Unit memory named a number places answer e w at is =
+    subst (λ (o : Option ℤ). Nearest (option_map_or unit_of o (pos 0)) 1 answer) (sym w) is
+is_of_one value memory named a number places answer e w at is = subst (λ (t : ℤ). IsOfOne value places t answer) e is
+
 pub computes_one : (value : ValueOfOne) (memory : RegisterMap) (named : ℕ) (a : RowPlace) (number : Ten)
     (places : Places) (result : Result (List ℕ) LineFault)
     → units number ≡ amount_in memory named a → worth (holding_of (register_in memory named a)) ≡ Some (units number)
     → RoundsAt value memory places → KeptOne value places (flag_of memory range_ignore) number result
-    → Computes (value_of_one value a) memory named result
-computes_one ones.Root memory named a number places result e w at k =
-    record { answer = k.answer; nearest = subst (λ (t : ℤ). NearestRoot t k.answer) e k.answers; kept = k.kept }
-computes_one ones.Inverse memory named a number places result e w at k =
-    record { answer = k.answer; nearest = subst (λ (t : ℤ). NearestQuotient (pos one) t k.answer) e k.answers; kept = k.kept }
-computes_one ones.Negative memory named a number places result e w at k =
-    record { answer = k.answer; nearest = subst (λ (t : ℤ). Nearest (neg_ℤ t) 1 k.answer) e k.answers; kept = k.kept }
-computes_one ones.AbsoluteValue memory named a number places result e w at k =
-    record { answer = k.answer; nearest = subst (λ (t : ℤ). Nearest (pos (unsigned_abs t)) 1 k.answer) e k.answers; kept = k.kept }
-computes_one ones.IntegerPart memory named a number places result e w at k =
+    → Computes (OfOne value a) memory named result
+computes_one value memory named a number places result e w at k =
     record {
       answer = k.answer;
-      nearest = subst (λ (t : ℤ). (part : ℤ) × IsIntegerPart t part × Nearest part 1 k.answer) e k.answers;
-      kept = k.kept;
+      nearest = is_of_one value memory named a (units number) places k.answer e w at k.answers;
+      kept = subst (λ (t : ℤ). Kept (sign_of_one value t) (flag_of memory range_ignore) k.answer result) e k.kept;
     }
-computes_one ones.Fraction memory named a number places result e w at k =
-    record {
-      answer = k.answer;
-      nearest = subst (λ (t : ℤ). (rest : ℤ) × IsFraction t rest × Nearest rest 1 k.answer) e k.answers;
-      kept = k.kept;
-    }
-computes_one ones.Displayed memory named a number places result e w at k =
-    record {
-      answer = k.answer;
-      nearest = (
-        number,
-        e,
-        subst (λ (rounded : Places). RoundsTo (step_of rounded number) (units number) k.answer) at k.answers,
-      );
-      kept = subst (λ (t : ℤ). Kept (sign_of t) (flag_of memory range_ignore) k.answer result) e k.kept;
-    }
-computes_one ones.Unit memory named a number places result e w at k =
-    record {
-      answer = k.answer;
-      nearest = subst (λ (o : Option ℤ). Nearest (option_map_or unit_of o (pos 0)) 1 k.answer) (sym w) k.answers;
-      kept = k.kept;
-    }
-computes_one ones.CountedUp memory named a number places result e w at k =
-    record { answer = k.answer; nearest = subst (λ (t : ℤ). Nearest (number_after Up t) 1 k.answer) e k.answers; kept = k.kept }
-computes_one ones.CountedDown memory named a number places result e w at k =
-    record { answer = k.answer; nearest = subst (λ (t : ℤ). Nearest (number_after Down t) 1 k.answer) e k.answers; kept = k.kept }
 
 pub works_one : (value : ValueOfOne) (register : List ℕ) (places : Places) (ignores_range : Bool) (number : Ten)
     (result : Result (List ℕ) LineFault)
@@ -134,23 +107,15 @@ works_one value register places ignores_range number result w k memory named a e
     let kept = subst (λ (ignored : Bool). KeptOne value places ignored number result) (sym flag) k in
     worked value is_one (computes_one value memory named a number places result amount there at kept)
   where
-    worked : (value : ValueOfOne) → are_numbers memory named (a ∷ []) ≡ true → Computes (value_of_one value a) memory named result
-        → WorksOn memory named (value_of_one value a) result
-    worked ones.Root t computes = where_true _ _ _ t computes
-    worked ones.Inverse t computes = where_true _ _ _ t computes
-    worked ones.Negative t computes = where_true _ _ _ t computes
-    worked ones.AbsoluteValue t computes = where_true _ _ _ t computes
-    worked ones.IntegerPart t computes = where_true _ _ _ t computes
-    worked ones.Fraction t computes = where_true _ _ _ t computes
-    worked ones.Displayed t computes = where_true _ _ _ t computes
+    worked : (value : ValueOfOne) → are_numbers memory named (a ∷ []) ≡ true → Computes (OfOne value a) memory named result
+        → WorksOn memory named (OfOne value a) result
     worked ones.Unit t computes = computes
-    worked ones.CountedUp t computes = where_true _ _ _ t computes
-    worked ones.CountedDown t computes = where_true _ _ _ t computes
+    worked value t computes = where_true _ _ _ t computes
 
 -- The unit of a register without a number.
 unit_of_none : (memory : RegisterMap) (named : ℕ) (a : RowPlace) (result : Result (List ℕ) LineFault)
     → worth (holding_of (register_in memory named a)) ≡ None → IsOkAnd result (λ register. IsAlways (Given (pos 0)) register)
-    → Computes (values.Unit a) memory named result
+    → Computes (OfOne ones.Unit a) memory named result
 unit_of_none memory named a (Ok register) none always =
     let zero = always memory named in
     record {
@@ -173,17 +138,9 @@ works_without value register places ignores_range fault result w f without memor
   where
     refused : (value : ValueOfOne) → are_numbers memory named (a ∷ []) ≡ false → worth (holding_of (register_in memory named a)) ≡ None
         → ◌≡◌ {A = Result (List ℕ) LineFault} (Err fault) (Err AlphaData) → WithoutNumber value fault result
-        → WorksOn memory named (value_of_one value a) result
-    refused ones.Root t none said without = where_false _ _ _ t (without ∙ said)
-    refused ones.Inverse t none said without = where_false _ _ _ t (without ∙ said)
-    refused ones.Negative t none said without = where_false _ _ _ t (without ∙ said)
-    refused ones.AbsoluteValue t none said without = where_false _ _ _ t (without ∙ said)
-    refused ones.IntegerPart t none said without = where_false _ _ _ t (without ∙ said)
-    refused ones.Fraction t none said without = where_false _ _ _ t (without ∙ said)
-    refused ones.Displayed t none said without = where_false _ _ _ t (without ∙ said)
+        → WorksOn memory named (OfOne value a) result
     refused ones.Unit t none said without = unit_of_none memory named a result none without
-    refused ones.CountedUp t none said without = where_false _ _ _ t (without ∙ said)
-    refused ones.CountedDown t none said without = where_false _ _ _ t (without ∙ said)
+    refused value t none said without = where_false _ _ _ t (without ∙ said)
 
 -- A value of the register at an address.
 pub one_at : (value : ValueOfOne) (memory : RegisterMap) (address : ℕ) (register : List ℕ) (places : Places) (ignores_range : Bool)
@@ -196,45 +153,16 @@ one_at value memory address register places ignores_range result same at flag wo
 -- A value of two places.
 pub computes_two : (value : ValueOfTwo) (memory : RegisterMap) (named : ℕ) (a b : RowPlace) (x y : Ten) (result : Result (List ℕ) LineFault)
     → units x ≡ amount_in memory named a → units y ≡ amount_in memory named b
-    → KeptTwo value (flag_of memory range_ignore) x y result → Computes (value_of_two value a b) memory named result
-computes_two twos.Sum memory named a b x y result e f k =
-    let together : units x +ℤ units y ≡ amount_in memory named a +ℤ amount_in memory named b = cc in
-    record {
-      answer = k.answer;
-      nearest = subst (λ (t : ℤ). Nearest t 1 k.answer) together k.answers;
-      kept = subst (λ (t : ℤ). Kept (sign_of t) (flag_of memory range_ignore) k.answer result) together k.kept;
-    }
-computes_two twos.Difference memory named a b x y result e f k =
-    let together : units x -ℤ units y ≡ amount_in memory named a -ℤ amount_in memory named b = cc in
-    record {
-      answer = k.answer;
-      nearest = subst (λ (t : ℤ). Nearest t 1 k.answer) together k.answers;
-      kept = subst (λ (t : ℤ). Kept (sign_of t) (flag_of memory range_ignore) k.answer result) together k.kept;
-    }
-computes_two twos.Product memory named a b x y result e f k =
-    let together : units x *ℤ units y ≡ amount_in memory named a *ℤ amount_in memory named b = cc in
-    record {
-      answer = k.answer;
-      nearest = subst (λ (t : ℤ). Nearest t one k.answer) together k.answers;
-      kept = subst (λ (t : ℤ). Kept (sign_of t) (flag_of memory range_ignore) k.answer result) together k.kept;
-    }
-computes_two twos.Quotient memory named a b x y result e f k =
-    let together : units x *ℤ units y ≡ amount_in memory named a *ℤ amount_in memory named b = cc in
+    → KeptTwo value (flag_of memory range_ignore) x y result → Computes (OfTwo value a b) memory named result
+computes_two value memory named a b x y result e f k =
     record {
       answer = k.answer;
       nearest =
-          subst (λ (t : ℤ). NearestQuotient t (amount_in memory named b) k.answer)
-          e (subst (λ (t : ℤ). NearestQuotient (units x) t k.answer) f k.answers);
-      kept = subst (λ (t : ℤ). Kept (sign_of t) (flag_of memory range_ignore) k.answer result) together k.kept;
-    }
-computes_two twos.Remainder memory named a b x y result e f k =
-    record { answer = k.answer; nearest = (x, y, e, f, k.answers); kept = k.kept }
-computes_two twos.Percentage memory named a b x y result e f k =
-    let together : units x *ℤ units y ≡ amount_in memory named a *ℤ amount_in memory named b = cc in
-    record {
-      answer = k.answer;
-      nearest = subst (λ (t : ℤ). Nearest t (100 * one) k.answer) together k.answers;
-      kept = subst (λ (t : ℤ). Kept (sign_of t) (flag_of memory range_ignore) k.answer result) together k.kept;
+          subst (λ (t : ℤ). IsOfTwo value t (amount_in memory named b) k.answer) e
+          (subst (λ (t : ℤ). IsOfTwo value (units x) t k.answer) f k.answers);
+      kept =
+          subst (λ (t : ℤ). Kept (sign_of_two value t (amount_in memory named b)) (flag_of memory range_ignore) k.answer result) e
+          (subst (λ (t : ℤ). Kept (sign_of_two value (units x) t) (flag_of memory range_ignore) k.answer result) f k.kept);
     }
 
 -- Both places contain numbers.
@@ -249,16 +177,6 @@ second_without : (o p : Option ℤ) → p ≡ None → (is_some o && (is_some p 
 second_without None p e = refl
 second_without (Some x) p e = ap (λ (t : Option ℤ). is_some t && true) e
 
--- Each value of two numbers needs a number in both places.
-two_asked : (value : ValueOfTwo) (memory : RegisterMap) (named : ℕ) (a b : RowPlace)
-    → are_numbers memory named (places_in_value (value_of_two value a b)) ≡ are_numbers memory named (a ∷ b ∷ [])
-two_asked twos.Sum memory named a b = refl
-two_asked twos.Difference memory named a b = refl
-two_asked twos.Product memory named a b = refl
-two_asked twos.Quotient memory named a b = refl
-two_asked twos.Remainder memory named a b = refl
-two_asked twos.Percentage memory named a b = refl
-
 -- A value of the numbers in two registers.
 pub works_two : (value : ValueOfTwo) (first second : List ℕ) (ignores_range : Bool) (x y : Ten) (result : Result (List ℕ) LineFault)
     → worth (holding_of first) ≡ Some (units x) → worth (holding_of second) ≡ Some (units y) → KeptTwo value ignores_range x y result
@@ -267,7 +185,7 @@ works_two value first second ignores_range x y result v w k other named a b e f 
     let are = both_numbers _ _ (units x) (units y)
     (number_there first other named a (Some (units x)) e v)
     (number_there second other named b (Some (units y)) f w) in
-    where_true _ _ _ (two_asked value other named a b ∙ are)
+    where_true _ _ _ are
     (computes_two value other named a b x y result
     (amount_there first other named a (units x) e v) (amount_there second other named b (units y) f w)
     (subst (λ (ignored : Bool). KeptTwo value ignored x y result) (sym flag) k))
@@ -276,10 +194,10 @@ pub first_fails : (value : ValueOfTwo) (first second : List ℕ) (ignores_range 
     → worth (holding_of first) ≡ None → fault ≡ AlphaData → WorksOnRegisters value first second ignores_range (Err fault)
 first_fails value first second ignores_range fault w said other named a b e f flag =
     where_false _ _ _
-    (two_asked value other named a b ∙ first_without _ _ (number_there first other named a None e w)) (ap Err said)
+    (first_without _ _ (number_there first other named a None e w)) (ap Err said)
 
 pub second_fails : (value : ValueOfTwo) (first second : List ℕ) (ignores_range : Bool) (fault : LineFault)
     → worth (holding_of second) ≡ None → fault ≡ AlphaData → WorksOnRegisters value first second ignores_range (Err fault)
 second_fails value first second ignores_range fault w said other named a b e f flag =
     where_false _ _ _
-    (two_asked value other named a b ∙ second_without _ _ (number_there second other named b None f w)) (ap Err said)
+    (second_without _ _ (number_there second other named b None f w)) (ap Err said)

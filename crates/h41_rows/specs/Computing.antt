@@ -5,7 +5,6 @@ use Rattle.std.specs.Option.{option_map_or}
 use Rattle.h41_decimal.specs.Holding.{holding_of, worth}
 use Rattle.h41_ram.specs.NamedFlags.{range_ignore}
 use Rattle.h41_ram.specs.RegisterMap.{RegisterMap, flag_of, register_at}
-use Rattle.h41_rows.specs.Counters.{Up, Down}
 use Rattle.h41_rows.specs.Operands.{Meant, Count, Name}
 use Rattle.h41_rows.specs.Places.{RowPlace, are_numbers, place_address, register_in}
 use Rattle.h41_rows.specs.RowEffects.{holds_in, takes_of, with_alpha_change, with_taken}
@@ -13,8 +12,7 @@ use Rattle.h41_rows.specs.Rows.{AlphaChange, Condition, Takes, coming_in, comput
 use Rattle.h41_rows.specs.Rows.{places_in_condition, places_in_value}
 use Rattle.h41_rows.specs.Rows as rows
 use Rattle.h41_rows.specs.Places as places
-use Rattle.h41_rows.specs.Values.{Value, Computes}
-use Rattle.h41_rows.specs.Values as values
+use Rattle.h41_rows.specs.Values.{Value, Computes, OfOne, OfTwo}
 use Rattle.h41_rows.specs.declared.conditions.Test.{Test}
 use Rattle.h41_rows.specs.declared.conditions.Test.TheVariants as tests
 use Rattle.h41_rows.specs.declared.fault.LineFault.{LineFault}
@@ -22,9 +20,7 @@ use Rattle.h41_rows.specs.declared.fault.LineFault.TheVariants.{AlphaData}
 use Rattle.h41_rows.specs.declared.operands.BranchTarget.{BranchTarget}
 use Rattle.h41_rows.specs.declared.operands.BranchTarget.TheVariants as targets
 use Rattle.h41_rows.specs.declared.values.ValueOfOne.{ValueOfOne}
-use Rattle.h41_rows.specs.declared.values.ValueOfOne.TheVariants as ones
 use Rattle.h41_rows.specs.declared.values.ValueOfTwo.{ValueOfTwo}
-use Rattle.h41_rows.specs.declared.values.ValueOfTwo.TheVariants as twos
 
 -- A value is computed if its places contain numbers, otherwise the result is ALPHA DATA.
 abbrev pub WorksOn : RegisterMap → ℕ → Value → Result (List ℕ) LineFault → Type 0
@@ -32,33 +28,11 @@ WorksOn memory named value result =
     MatchBool (are_numbers memory named (places_in_value value))
     (Computes value memory named result) (result ≡ Err AlphaData)
 
--- A value of the number in one place.
-abbrev pub value_of_one : ValueOfOne → RowPlace → Value
-value_of_one ones.Root a = values.Root a
-value_of_one ones.Inverse a = values.Inverse a
-value_of_one ones.Negative a = values.Negative a
-value_of_one ones.AbsoluteValue a = values.AbsoluteValue a
-value_of_one ones.IntegerPart a = values.IntegerPart a
-value_of_one ones.Fraction a = values.Fraction a
-value_of_one ones.Displayed a = values.Displayed a
-value_of_one ones.Unit a = values.Unit a
-value_of_one ones.CountedUp a = values.Counted Up a
-value_of_one ones.CountedDown a = values.Counted Down a
-
--- A value of the numbers in two places.
-abbrev pub value_of_two : ValueOfTwo → RowPlace → RowPlace → Value
-value_of_two twos.Sum a b = values.Sum a b
-value_of_two twos.Difference a b = values.Difference a b
-value_of_two twos.Product a b = values.Product a b
-value_of_two twos.Quotient a b = values.Quotient a b
-value_of_two twos.Remainder a b = values.Remainder a b
-value_of_two twos.Percentage a b = values.Percentage a b
-
 -- The value is computed from the register at this address, whatever name its place has.
 abbrev pub WorksOnOne : ValueOfOne → RegisterMap → ℕ → Result (List ℕ) LineFault → Type 0
 WorksOnOne value memory address result =
     (named : ℕ) (a : RowPlace)
-    → place_address named a ≡ address → WorksOn memory named (value_of_one value a) result
+    → place_address named a ≡ address → WorksOn memory named (OfOne value a) result
 
 -- The value is computed from the registers at these two addresses, whatever memory they are in and
 -- whatever names their places have. Besides them, only flag 24 affects the result. Any two
@@ -69,7 +43,7 @@ WorksOnTwo value memory first second result =
     → register_in other named a ≡ register_at memory first
     → register_in other named b ≡ register_at memory second
     → flag_of other range_ignore ≡ flag_of memory range_ignore
-    → WorksOn other named (value_of_two value a b) result
+    → WorksOn other named (OfTwo value a b) result
 
 -- A value that does not depend on memory.
 abbrev pub IsAlways : Value → List ℕ → Type 0

@@ -10,7 +10,9 @@ use Rattle.h41_rows.specs.Rows.{Below}
 use Rattle.h41_rows.specs.Rows.{AtMost, Returns, NoText, AlphaText, Stops, TurnsOff, Off}
 use Rattle.h41_rows.specs.Rows.{lifting_row}
 use Rattle.h41_rows.specs.Rows.{silent_row, copy, compute, of_x, of_y_and_x, coming_in, test}
-use Rattle.h41_rows.specs.Values as values
+use Rattle.h41_rows.specs.Values.{Given, OfOne, OfTwo}
+use Rattle.h41_rows.specs.declared.values.ValueOfOne.TheVariants as ones
+use Rattle.h41_rows.specs.declared.values.ValueOfTwo.TheVariants as twos
 
 -- 3.141592654, in units. The exponent 0 is 99 above the lowest.
 abbrev pub pi : ℕ
@@ -24,44 +26,44 @@ angles for_grads for_radians = record lifting_row { flags = for_grads ∷ for_ra
 -- Each supported function has a row.
 abbrev pub function_row : Function → Option LineRow
 -- functions of Y and X: LAST X receives X, and the stack drops
-function_row functions.Add = Some (of_y_and_x (values.Sum Y X))
-function_row functions.Subtract = Some (of_y_and_x (values.Difference Y X))
-function_row functions.Multiply = Some (of_y_and_x (values.Product Y X))
-function_row functions.Divide = Some (of_y_and_x (values.Quotient Y X))
+function_row functions.Add = Some (of_y_and_x (OfTwo twos.Sum Y X))
+function_row functions.Subtract = Some (of_y_and_x (OfTwo twos.Difference Y X))
+function_row functions.Multiply = Some (of_y_and_x (OfTwo twos.Product Y X))
+function_row functions.Divide = Some (of_y_and_x (OfTwo twos.Quotient Y X))
 function_row functions.TestXLessThanY = Some (test (Below (In X) (In Y)))
 function_row functions.TestXGreaterThanY = Some (test (Below (In Y) (In X)))
 function_row functions.TestXAtMostY = Some (test (AtMost (In X) (In Y)))
-function_row functions.Modulo = Some (of_y_and_x (values.Remainder Y X))
+function_row functions.Modulo = Some (of_y_and_x (OfTwo twos.Remainder Y X))
 -- Y is unchanged, so that the percentage can be added to it next
 function_row functions.Percent =
     Some
     (record lifting_row {
-      value = Some (values.Percentage Y X);
+      value = Some (OfTwo twos.Percentage Y X);
       takes = compute X ∷ copy LastX X
           ∷ [];
     })
 -- functions of X alone: LAST X receives X
-function_row functions.Square = Some (of_x (values.Product X X))
-function_row functions.SquareRoot = Some (of_x (values.Root X))
+function_row functions.Square = Some (of_x (OfTwo twos.Product X X))
+function_row functions.SquareRoot = Some (of_x (OfOne ones.Root X))
 -- LAST X is unchanged
 function_row functions.ChangeSign =
-    Some (record lifting_row { value = Some (values.Negative X); takes = compute X ∷ [] })
-function_row functions.Reciprocal = Some (of_x (values.Inverse X))
-function_row functions.AbsoluteValue = Some (of_x (values.AbsoluteValue X))
+    Some (record lifting_row { value = Some (OfOne ones.Negative X); takes = compute X ∷ [] })
+function_row functions.Reciprocal = Some (of_x (OfOne ones.Inverse X))
+function_row functions.AbsoluteValue = Some (of_x (OfOne ones.AbsoluteValue X))
 function_row functions.TestXNotZero = Some (test (Differ (In X) Nought))
 function_row functions.TestXPositive = Some (test (Below Nought (In X)))
 function_row functions.TestXNegative = Some (test (Below (In X) Nought))
 function_row functions.TestXZero = Some (test (Same (In X) Nought))
-function_row functions.IntegerPart = Some (of_x (values.IntegerPart X))
-function_row functions.FractionPart = Some (of_x (values.Fraction X))
-function_row functions.Round = Some (of_x (values.Displayed X))
+function_row functions.IntegerPart = Some (of_x (OfOne ones.IntegerPart X))
+function_row functions.FractionPart = Some (of_x (OfOne ones.Fraction X))
+function_row functions.Round = Some (of_x (OfOne ones.Displayed X))
 -- functions of the stack
 function_row functions.ExchangeXY = Some (record lifting_row { takes = copy X Y ∷ copy Y X ∷ [] })
 function_row functions.Pi =
-    Some (record (coming_in (compute X)) { value = Some (values.Given (pos pi)) })
+    Some (record (coming_in (compute X)) { value = Some (Given (pos pi)) })
 function_row functions.ClearStack =
     Some (record lifting_row {
-      value = Some (values.Given (pos 0));
+      value = Some (Given (pos 0));
       takes = compute T ∷ compute Z ∷ compute Y ∷ compute X ∷ [];
     })
 function_row functions.RollUp =
@@ -72,11 +74,11 @@ function_row functions.LastX = Some (coming_in (copy X LastX))
 -- stack lift is off, so that the next number replaces this zero
 function_row functions.ClearX =
     Some
-    (record lifting_row { value = Some (values.Given (pos 0)); takes = compute X ∷ []; lift = Off })
+    (record lifting_row { value = Some (Given (pos 0)); takes = compute X ∷ []; lift = Off })
 function_row functions.TestXEqualsY = Some (test (Same (In X) (In Y)))
 function_row functions.TestXDiffersFromY = Some (test (Differ (In X) (In Y)))
 -- the result is 0 if X contains no number
-function_row functions.Signum = Some (of_x (values.Unit X))
+function_row functions.Signum = Some (of_x (OfOne ones.Unit X))
 function_row functions.TestXAtMostZero = Some (test (AtMost (In X) Nought))
 -- functions of the display
 function_row functions.ViewAlpha = Some (record lifting_row { shows = AlphaText })

@@ -23,7 +23,8 @@ use Rattle.h41_rows.specs.Rows.{LineRow, FlagChange, Becomes, Appends, AppendsNa
 use Rattle.h41_rows.specs.Rows.{Loops, NamedText, Returns, SixCharacters, ToLabel, ToName}
 use Rattle.h41_rows.specs.Rows.{lifting_row}
 use Rattle.h41_rows.specs.Rows.{silent_row, copy, compute, coming_in, test}
-use Rattle.h41_rows.specs.Values as values
+use Rattle.h41_rows.specs.Values.{Value, OfOne, OfTwo, Written, counted}
+use Rattle.h41_rows.specs.declared.values.ValueOfTwo.TheVariants as twos
 
 -- RCL brings the named register into X.
 abbrev pub recall : LineRow
@@ -34,13 +35,13 @@ abbrev pub store : LineRow
 store = record lifting_row { takes = copy Named X ∷ [] }
 
 -- Arithmetic in a register: it receives a value of itself and X. X and LAST X are unchanged.
-abbrev pub into_register : values.Value → LineRow
+abbrev pub into_register : Value → LineRow
 into_register value = record lifting_row { value = Some value; takes = compute Named ∷ [] }
 
 -- ISG and DSE count the named register, and continue the loop or skip a line.
 abbrev pub loop : Way → LineRow
 loop way = record lifting_row {
-  value = Some (values.Counted way Named);
+  value = Some (OfOne (counted way) Named);
   takes = compute Named ∷ [];
   goes = Counts (Loops way Named);
 }
@@ -81,10 +82,10 @@ count_row function n = lifting_row
 abbrev pub register_row : ParameterFunction → LineRow
 register_row functions.Recall = recall
 register_row functions.Store = store
-register_row functions.StoreAdd = into_register (values.Sum Named X)
-register_row functions.StoreSubtract = into_register (values.Difference Named X)
-register_row functions.StoreMultiply = into_register (values.Product Named X)
-register_row functions.StoreDivide = into_register (values.Quotient Named X)
+register_row functions.StoreAdd = into_register (OfTwo twos.Sum Named X)
+register_row functions.StoreSubtract = into_register (OfTwo twos.Difference Named X)
+register_row functions.StoreMultiply = into_register (OfTwo twos.Product Named X)
+register_row functions.StoreDivide = into_register (OfTwo twos.Quotient Named X)
 register_row functions.IncrementSkip = loop Up
 register_row functions.DecrementSkip = loop Down
 register_row functions.View = record lifting_row { shows = NamedText }
@@ -140,7 +141,7 @@ abbrev pub row_of : Line → Meant → LineRow
 row_of lines.Null meant = lifting_row
 row_of (lines.LocalLabel label) meant = silent_row
 row_of (lines.Number characters) meant =
-    record (coming_in (compute X)) { value = Some (values.Written characters) }
+    record (coming_in (compute X)) { value = Some (Written characters) }
 row_of (lines.Named function name) meant = named_row function name
 row_of (lines.Register function register) meant = short_row function
 row_of (lines.Plain function) meant = option_map_or (λ row. row) (function_row function) lifting_row

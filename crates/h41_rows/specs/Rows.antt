@@ -4,9 +4,8 @@ use Rattle.std.specs.Option.{option_map_or}
 use Rattle.h41_codes.specs.declared.functions.Branch.{Branch}
 use Rattle.h41_rows.specs.Counters.{Way}
 use Rattle.h41_rows.specs.Places.{RowPlace, T, Z, Y, X, LastX}
-use Rattle.h41_rows.specs.Values.{Value, Given, Written, Sum, Difference, Product, Quotient}
-use Rattle.h41_rows.specs.Values.{Remainder, Percentage, Root, Inverse, Negative, AbsoluteValue}
-use Rattle.h41_rows.specs.Values.{IntegerPart, Fraction, Displayed, Unit, Counted}
+use Rattle.h41_rows.specs.Values.{Value, Given, Written, OfOne, OfTwo}
+use Rattle.h41_rows.specs.declared.values.ValueOfOne.TheVariants.{Unit}
 
 -- What a place receives. All of it is read before the line changes anything.
 pub data RegisterSource : Type 0 where
@@ -161,22 +160,10 @@ test condition = record lifting_row { goes = Tests condition }
 abbrev pub places_in_value : Value → List RowPlace
 places_in_value (Given number) = []
 places_in_value (Written characters) = []
-places_in_value (Sum a b) = a ∷ b ∷ []
-places_in_value (Difference a b) = a ∷ b ∷ []
-places_in_value (Product a b) = a ∷ b ∷ []
-places_in_value (Quotient a b) = a ∷ b ∷ []
-places_in_value (Remainder a b) = a ∷ b ∷ []
-places_in_value (Percentage a b) = a ∷ b ∷ []
-places_in_value (Root a) = a ∷ []
-places_in_value (Inverse a) = a ∷ []
-places_in_value (Negative a) = a ∷ []
-places_in_value (AbsoluteValue a) = a ∷ []
-places_in_value (IntegerPart a) = a ∷ []
-places_in_value (Fraction a) = a ∷ []
-places_in_value (Displayed a) = a ∷ []
--- the sign of a register without a number is 0
-places_in_value (Unit a) = []
-places_in_value (Counted way a) = a ∷ []
+-- the unit of a register without a number is 0
+places_in_value (OfOne Unit a) = []
+places_in_value (OfOne value a) = a ∷ []
+places_in_value (OfTwo value a b) = a ∷ b ∷ []
 
 -- The place of a term, unless it is zero.
 abbrev pub places_in_term : Term → List RowPlace

@@ -26,10 +26,14 @@ use Rattle.h41_show.specs.declared.format.Format.{Format}
 use Rattle.h41_show.specs.declared.format.Notation.{Notation}
 use Rattle.h41_show.specs.declared.format.Notation.TheVariants.{Fixed, Scientific, Engineering}
 use Rattle.h41_numbers.specs.NumberLines.{IsNumberOf}
-use Rattle.h41_rows.specs.Counters.{Way, number_after}
+use Rattle.h41_rows.specs.Counters.{Way, Up, Down, number_after}
 use Rattle.h41_rows.specs.Places.{RowPlace, amount_in, register_in}
 use Rattle.h41_rows.specs.declared.fault.LineFault.{LineFault}
 use Rattle.h41_rows.specs.declared.fault.LineFault.TheVariants.{DataError, OutOfRange}
+use Rattle.h41_rows.specs.declared.values.ValueOfOne.{ValueOfOne}
+use Rattle.h41_rows.specs.declared.values.ValueOfOne.TheVariants as ones
+use Rattle.h41_rows.specs.declared.values.ValueOfTwo.{ValueOfTwo}
+use Rattle.h41_rows.specs.declared.values.ValueOfTwo.TheVariants as twos
 
 -- A value, by the places of its numbers.
 pub data Value : Type 0 where
@@ -37,30 +41,15 @@ pub data Value : Type 0 where
   Given : ℤ → Value
   -- the number of a number line
   Written : List Character → Value
-  -- the sum
-  Sum : RowPlace → RowPlace → Value
-  -- the first number minus the second
-  Difference : RowPlace → RowPlace → Value
-  Product : RowPlace → RowPlace → Value
-  -- the first number divided by the second
-  Quotient : RowPlace → RowPlace → Value
-  -- the first number modulo the second
-  Remainder : RowPlace → RowPlace → Value
-  -- a hundredth of the product
-  Percentage : RowPlace → RowPlace → Value
-  Root : RowPlace → Value
-  Inverse : RowPlace → Value
-  Negative : RowPlace → Value
-  AbsoluteValue : RowPlace → Value
-  IntegerPart : RowPlace → Value
-  Fraction : RowPlace → Value
-  -- the number rounded to the display format
-  Displayed : RowPlace → Value
-  -- 1 with the number's sign, and 0 if the place contains no number (this project's choice if it
-  -- contains no ALPHA data either)
-  Unit : RowPlace → Value
-  -- the counter of a loop, counted
-  Counted : Way → RowPlace → Value
+  -- a value of the number in a place
+  OfOne : ValueOfOne → RowPlace → Value
+  -- a value of the numbers in two places
+  OfTwo : ValueOfTwo → RowPlace → RowPlace → Value
+
+-- The counter of a loop, counted.
+abbrev pub counted : Way → ValueOfOne
+counted Up = ones.CountedUp
+counted Down = ones.CountedDown
 
 -- The decimals or digits to which the display format rounds. SCI and ENG have one digit before the
 -- radix mark, so that there is one more digit than decimals.
@@ -79,58 +68,69 @@ unit_of number = with_sign (sign_of number) one
 
 -- The result for a value is its nearest decimal, or an error. A zero divisor and the root of a
 -- negative number are DATA ERROR, as `NearestQuotient` and `NearestRoot` define.
+
+-- The result for a value of one number. Only the displayed value is rounded to these places.
+abbrev pub IsOfOne : ValueOfOne → Places → ℤ → Result Ten DecimalFault → Type 0
+IsOfOne ones.Root places number answer = NearestRoot number answer
+IsOfOne ones.Inverse places number answer = NearestQuotient (pos one) number answer
+IsOfOne ones.Negative places number answer = Nearest (neg_ℤ number) 1 answer
+IsOfOne ones.AbsoluteValue places number answer = Nearest (pos (unsigned_abs number)) 1 answer
+IsOfOne ones.IntegerPart places number answer =
+    (part : ℤ) × IsIntegerPart number part × Nearest part 1 answer
+IsOfOne ones.Fraction places number answer =
+    (rest : ℤ) × IsFraction number rest × Nearest rest 1 answer
+IsOfOne ones.Displayed places number answer =
+    (decimal : Ten)
+    × (units decimal ≡ number)
+    × RoundsTo (step_of places decimal) (units decimal) answer
+IsOfOne ones.Unit places number answer = Nearest (unit_of number) 1 answer
+IsOfOne ones.CountedUp places number answer = Nearest (number_after Up number) 1 answer
+IsOfOne ones.CountedDown places number answer = Nearest (number_after Down number) 1 answer
+
+-- The result for a value of two numbers.
+abbrev pub IsOfTwo : ValueOfTwo → (first second : ℤ) → Result Ten DecimalFault → Type 0
+IsOfTwo twos.Sum y x answer = Nearest (y +ℤ x) 1 answer
+IsOfTwo twos.Difference y x answer = Nearest (y -ℤ x) 1 answer
+IsOfTwo twos.Product y x answer = Nearest (y *ℤ x) one answer
+IsOfTwo twos.Quotient y x answer = NearestQuotient y x answer
+IsOfTwo twos.Remainder y x answer =
+    (first : Ten) × (second : Ten) × (units first ≡ y) × (units second ≡ x)
+    × NearestModulo first second answer
+IsOfTwo twos.Percentage y x answer = Nearest (y *ℤ x) (100 * one) answer
+
+-- The result for a value in memory.
 abbrev pub IsValue : Value → RegisterMap → ℕ → Result Ten DecimalFault → Type 0
 IsValue (Given number) memory named answer = Nearest number 1 answer
 IsValue (Written characters) memory named answer = IsOkAnd answer (IsNumberOf characters)
-IsValue (Sum a b) memory named answer =
-    Nearest (amount_in memory named a +ℤ amount_in memory named b) 1 answer
-IsValue (Difference a b) memory named answer =
-    Nearest (amount_in memory named a -ℤ amount_in memory named b) 1 answer
-IsValue (Product a b) memory named answer =
-    Nearest (amount_in memory named a *ℤ amount_in memory named b) one answer
-IsValue (Quotient a b) memory named answer =
-    NearestQuotient (amount_in memory named a) (amount_in memory named b) answer
-IsValue (Remainder a b) memory named answer =
-    (y : Ten)
-    × (x : Ten)
-    × (units y ≡ amount_in memory named a)
-    × (units x ≡ amount_in memory named b)
-    × NearestModulo y x answer
-IsValue (Percentage a b) memory named answer =
-    Nearest (amount_in memory named a *ℤ amount_in memory named b) (100 * one) answer
-IsValue (Root a) memory named answer = NearestRoot (amount_in memory named a) answer
-IsValue (Inverse a) memory named answer =
-    NearestQuotient (pos one) (amount_in memory named a) answer
-IsValue (Negative a) memory named answer = Nearest (neg_ℤ (amount_in memory named a)) 1 answer
-IsValue (AbsoluteValue a) memory named answer =
-    Nearest (pos (unsigned_abs (amount_in memory named a))) 1 answer
-IsValue (IntegerPart a) memory named answer =
-    (part : ℤ) × IsIntegerPart (amount_in memory named a) part × Nearest part 1 answer
-IsValue (Fraction a) memory named answer =
-    (rest : ℤ) × IsFraction (amount_in memory named a) rest × Nearest rest 1 answer
-IsValue (Displayed a) memory named answer =
-    (number : Ten)
-    × (units number ≡ amount_in memory named a)
-    × RoundsTo (step_of (places_of (format_of memory)) number) (units number) answer
-IsValue (Unit a) memory named answer =
+-- the unit of a register that contains no number is 0 (this project's choice if it contains no
+-- ALPHA data either)
+IsValue (OfOne ones.Unit a) memory named answer =
     Nearest (option_map_or unit_of (worth (holding_of (register_in memory named a))) (pos 0))
     1 answer
-IsValue (Counted way a) memory named answer =
-    Nearest (number_after way (amount_in memory named a)) 1 answer
+IsValue (OfOne value a) memory named answer =
+    IsOfOne value (places_of (format_of memory)) (amount_in memory named a) answer
+IsValue (OfTwo value a b) memory named answer =
+    IsOfTwo value (amount_in memory named a) (amount_in memory named b) answer
 
--- The sign of a value that can be out of range. Other values have plus.
+-- The sign of a value of one number that can be out of range. Other values have plus.
+abbrev pub sign_of_one : ValueOfOne → ℤ → Sign
+sign_of_one ones.Displayed number = sign_of number
+sign_of_one value number = Plus
+
+-- The sign of a value of two numbers that can be out of range.
+abbrev pub sign_of_two : ValueOfTwo → (first second : ℤ) → Sign
+sign_of_two twos.Sum y x = sign_of (y +ℤ x)
+sign_of_two twos.Difference y x = sign_of (y -ℤ x)
+sign_of_two twos.Product y x = sign_of (y *ℤ x)
+sign_of_two twos.Quotient y x = sign_of (y *ℤ x)
+sign_of_two twos.Remainder y x = Plus
+sign_of_two twos.Percentage y x = sign_of (y *ℤ x)
+
+-- The sign of a value that can be out of range.
 abbrev pub sign_of_value : Value → RegisterMap → ℕ → Sign
-sign_of_value (Sum a b) memory named =
-    sign_of (amount_in memory named a +ℤ amount_in memory named b)
-sign_of_value (Difference a b) memory named =
-    sign_of (amount_in memory named a -ℤ amount_in memory named b)
-sign_of_value (Product a b) memory named =
-    sign_of (amount_in memory named a *ℤ amount_in memory named b)
-sign_of_value (Quotient a b) memory named =
-    sign_of (amount_in memory named a *ℤ amount_in memory named b)
-sign_of_value (Percentage a b) memory named =
-    sign_of (amount_in memory named a *ℤ amount_in memory named b)
-sign_of_value (Displayed a) memory named = sign_of (amount_in memory named a)
+sign_of_value (OfOne value a) memory named = sign_of_one value (amount_in memory named a)
+sign_of_value (OfTwo value a b) memory named =
+    sign_of_two value (amount_in memory named a) (amount_in memory named b)
 sign_of_value value memory named = Plus
 
 -- The register that contains a number.

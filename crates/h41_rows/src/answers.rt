@@ -6,9 +6,9 @@ ghost use Rattle.h41_decimal.specs.Operations.{NearestQuotient};
 ghost use Rattle.h41_decimal.specs.Units.{one, units};
 ghost use Rattle.h41_decimal.specs.WholeParts.{IsFraction, IsIntegerPart};
 ghost use Rattle.h41_show.specs.DisplayFormat.{format_of};
-ghost use Rattle.h41_rows.specs.private.Answers.{AnswersOne, AnswersTwo, IsNumberIn};
-ghost use Rattle.h41_rows.specs.private.Answers.{KeptByFlag, RoundsAt, sign_of_one, sign_of_two};
-ghost use Rattle.h41_rows.specs.Values.{IsRegisterOf, Kept, places_of, unit_of};
+ghost use Rattle.h41_rows.specs.private.Answers.{IsNumberIn, KeptByFlag, RoundsAt};
+ghost use Rattle.h41_rows.specs.Values.{IsOfOne, IsOfTwo, IsRegisterOf, Kept, places_of};
+ghost use Rattle.h41_rows.specs.Values.{sign_of_one, sign_of_two, unit_of};
 
 use crate::counters::{counted_down, counted_up};
 use crate::fault::LineFault;
@@ -74,7 +74,7 @@ pub fn kept_by_flag(ignores_range: bool, sign: Sign) -> Result<Reg, LineFault>
 /// and the inverse of zero, and `Range`.
 #[inline(always)]
 pub fn answer_of_one(value: ValueOfOne, number: Ten, places: Places) -> Result<Ten, DecimalFault>
-    ensures { AnswersOne value places number result }
+    ensures { IsOfOne value places (units number) result }
 {
     match value {
         ValueOfOne::Root => number.sqrt(),
@@ -105,7 +105,7 @@ pub fn sign_of_one(value: ValueOfOne, number: Ten) -> Sign
 /// whose divisor is zero, and `Range`.
 #[inline(always)]
 pub fn answer_of_two(value: ValueOfTwo, first: Ten, second: Ten) -> Result<Ten, DecimalFault>
-    ensures { AnswersTwo value first second result }
+    ensures { IsOfTwo value (units first) (units second) result }
 {
     let added = match value {
         ValueOfTwo::Difference => second.negated(),

@@ -1,4 +1,4 @@
-//! Tests of h41_program: edits of programs, and searches for lines and labels.
+//! Tests of h41_program and h41_walk over memory: edits of programs, and searches for lines and labels.
 
 ghost use Rattle.std.specs.Prelude.{IsTrue};
 ghost use Rattle.h41_program.specs.Lines.{is_inner};
@@ -7,11 +7,11 @@ ghost use Rattle.h41_ram.specs.RegisterMap.{is_sound};
 use h41_codes::{Function, Line, RegisterFunction, ShortRegister, decode};
 use h41_digits::Reg;
 use h41_program::{
-    InFront, ListedLine, ProgramRefusal, close_last, delete, end_of, final_position, first_from,
-    global, insert, is_last_open, line_at, line_before, line_number, load, next, replace, set_size,
-    start_of,
+    InFront, ListedLine, ProgramRefusal, close_last, delete, final_position, first_from, global,
+    insert, is_last_open, load, replace, set_size, start_of,
 };
 use h41_ram::Ram;
+use h41_walk::{end_of, line_at, line_before, line_number, next};
 
 /// One step of a test: a call on memory with its arguments and the expected result, in which a program line is given by
 /// its bytes; or a register with its expected digits. Positions are bytes from the start of program memory.

@@ -6,7 +6,8 @@ use Rattle.std.specs.Prelude.{MatchBool}
 use Rattle.h41_program.specs.declared.listed_line.ListedLine.{ListedLine}
 use Rattle.h41_program.specs.Lines.{is_final_end}
 use Rattle.h41_program.specs.ProgramBytes.{final_position, program_bytes}
-use Rattle.h41_program.specs.ProgramLines.{IsFirst, LinesFrom, NoneFrom, Reads, behind}
+use Rattle.h41_program.specs.FirstLines.{IsFirst, NoneFrom, behind}
+use Rattle.h41_program.specs.ProgramLines.{LinesFrom, Reads}
 use Rattle.h41_ram.specs.RegisterMap.{RegisterMap, is_sound}
 use Rattle.h41_views.specs.ProgramListing.{ListsProgram, listed_line}
 

@@ -1,9 +1,9 @@
 """Proves what comments before labels of a source or a program claim, for every state of the calculator.
 
-usage: tools/prove-module [--page P] [--try] [--keep FOLDER] [--libraries FOLDER] FILE.asm     (- is standard input)
-       tools/prove-module [--try] [--keep FOLDER] [--libraries FOLDER] PROJECT
-       tools/prove-module [--try] [--keep FOLDER] [--libraries FOLDER] FILE.txt
-       tools/prove-module [--try] [--keep FOLDER] [--libraries FOLDER] FILE.raw CLAIMS.txt
+usage: tools/prove-module [--page P] [--try] [--keep FOLDER] [--libraries FOLDER] [--verbose] FILE.asm     (- is standard input)
+       tools/prove-module [--try] [--keep FOLDER] [--libraries FOLDER] [--verbose] PROJECT
+       tools/prove-module [--try] [--keep FOLDER] [--libraries FOLDER] [--verbose] FILE.txt
+       tools/prove-module [--try] [--keep FOLDER] [--libraries FOLDER] [--verbose] FILE.raw CLAIMS.txt
 
 A label is a function that is proved if the comments directly before it claim something:
 
@@ -31,6 +31,7 @@ function or program, and for each claim that is false or not proved, a line on s
   --try                tries the claims on the bench, and proves nothing
   --keep FOLDER        keeps the crate with the theorems and proofs in a new folder
   --libraries FOLDER   where the proved libraries are. The default is where ./bench prove --all keeps them, or `rt ci`
+  --verbose            shows on standard error which function is tried or proved. This is the default on a terminal
 
 Status 0: everything is proved; with --try, no claim was false. 1: a claim is false or not proved, or the source or a claim has an
 error. 2: the command line is wrong. 3: the lines cannot be written, or the bench has failed. 70: there is no answer, because the
@@ -39,6 +40,7 @@ import argparse
 import os
 import tempfile
 
+from .. import progress
 from ..claims import Wrong
 from ..codes import Code, NotProved, Result
 from ..commandlines import Parser
@@ -58,12 +60,13 @@ from ..trials import counterexamples
 def options_of(words: list[str]) -> argparse.Namespace:
     """Returns the options of a command line."""
     parser = Parser(prog="prove-module", add_help=False, allow_abbrev=False,
-                    usage="tools/prove-module [--page P] [--try] [--keep FOLDER] [--libraries FOLDER] FILE.asm, PROJECT, FILE.txt, or "
-                          "FILE.raw CLAIMS.txt")
+                    usage="tools/prove-module [--page P] [--try] [--keep FOLDER] [--libraries FOLDER] [--verbose] FILE.asm, PROJECT, "
+                          "FILE.txt, or FILE.raw CLAIMS.txt")
     parser.add_argument("--page")
     parser.add_argument("--try", action="store_true", dest="is_trial")
     parser.add_argument("--keep")
     parser.add_argument("--libraries", default=LIBRARIES)
+    parser.add_argument("--verbose", action="store_true", dest="is_verbose")
     parser.add_argument("file", metavar="FILE")
     parser.add_argument("claims", metavar="CLAIMS.txt", nargs="?")
     options = parser.parse_args(words)
@@ -117,9 +120,9 @@ class Report:
 def try_all(report: Report, code: Code) -> dict[str, int]:
     """Tries the claims of all functions. Returns the labels without a false claim, with the number of states that were tried."""
     tried: dict[str, int] = {}
-    for label in code.contracts:
-        if not code.contracts[label].is_function:
-            continue
+    labels = [label for label, contract in code.contracts.items() if contract.is_function]
+    for at, label in enumerate(labels, 1):
+        progress.show(f"trying {code.shown(label)}, {at} of {len(labels)}")
         count, found = counterexamples(code, label)
         for one in found:
             report.bad(one.line, one.claim, f"false: {one.why}")
@@ -136,7 +139,7 @@ def prove_all(report: Report, code: Code, tried: dict[str, int], options: argpar
     with tempfile.TemporaryDirectory() as room:
         folder = options.keep or os.path.join(room, "module")
         proofs = write_crate(folder, code, results, os.path.basename(os.path.abspath(options.file)))
-        verdict = prove(folder, options.libraries, proofs)
+        verdict = prove(folder, options.libraries, proofs, reasons={path: proof.reasons for path, proof in proofs.items()})
     for line, claim, why in verdict.faults:
         report.bad(line, claim, f"not proved: {why}")
     for result in results:
@@ -177,6 +180,7 @@ def main(words: list[str]) -> int:
         print((__doc__ or "").strip())
         return 0
     options = options_of(words)
+    progress.begin(options.is_verbose)
     if options.keep and os.path.exists(options.keep):
         raise Failure(f"--keep {options.keep}: it exists already: choose another name")
     if is_program(options.file):

@@ -43,7 +43,7 @@ def programs() -> dict[str, str]:
     patterns = ("tools/*", "tools/hp41/**/*.py", ".ci/*")
     paths = sorted(path for pattern in patterns for path in glob.glob(pattern, root_dir=TOP, recursive=True))
     kept = [path for path in paths if os.path.isfile(f"{TOP}/{path}")
-            and not path.endswith((".md", ".txt", ".c", ".examples", ".exceptions", ".rows"))]
+            and not path.endswith((".md", ".txt", ".c", ".examples", ".exceptions", ".rows", ".crate"))]
     return {path: text_of(path) for path in kept}
 
 

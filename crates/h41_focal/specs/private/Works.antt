@@ -7,13 +7,14 @@ use Rattle.h41_codes.specs.declared.functions.ParameterFunction.{ParameterFuncti
 use Rattle.h41_codes.specs.declared.functions.ParameterFunction.TheVariants as parameters
 use Rattle.h41_codes.specs.declared.line.Line.TheVariants.{Plain}
 use Rattle.h41_ram.specs.NamedFlags.{alpha_mode, grads, radians}
-use Rattle.h41_rows.specs.Computing.{condition_of, value_of_one, value_of_two}
+use Rattle.h41_rows.specs.Computing.{condition_of}
 use Rattle.h41_rows.specs.FunctionRows.{angles}
 use Rattle.h41_rows.specs.LineRows.{change, count_row, format, into_register, register_row, row_of}
 use Rattle.h41_rows.specs.Operands.{DigitKind, FlagKind, LabelKind, NoOperand, RegisterKind}
 use Rattle.h41_rows.specs.Operands.{kind_of}
 use Rattle.h41_rows.specs.Places.{Y, X, Named}
 use Rattle.h41_rows.specs.Rows.{LineRow, Flag, lifting_row, silent_row, of_x, of_y_and_x, test}
+use Rattle.h41_rows.specs.Values.{OfOne, OfTwo}
 use Rattle.h41_focal.specs.declared.works.Movement.{Movement}
 use Rattle.h41_focal.specs.declared.works.Movement.TheVariants as moves
 use Rattle.h41_focal.specs.declared.works.AlphaWork.{AlphaWork}
@@ -62,8 +63,8 @@ display_row displays.TurnOff = plain_row functions.TurnOff
 
 -- The row of each effect.
 abbrev pub row_of_work : FunctionWork → LineRow
-row_of_work (works.OfYAndX value) = of_y_and_x (value_of_two value Y X)
-row_of_work (works.OfX value) = of_x (value_of_one value X)
+row_of_work (works.OfYAndX value) = of_y_and_x (OfTwo value Y X)
+row_of_work (works.OfX value) = of_x (OfOne value X)
 row_of_work works.Square = plain_row functions.Square
 row_of_work works.Percent = plain_row functions.Percent
 row_of_work works.ChangeSign = plain_row functions.ChangeSign
@@ -81,7 +82,7 @@ row_of_work works.Nothing = lifting_row
 abbrev pub register_use_row : RegisterUse → LineRow
 register_use_row registers.Recall = register_row parameters.Recall
 register_use_row registers.Store = register_row parameters.Store
-register_use_row (registers.Combine value) = into_register (value_of_two value Named X)
+register_use_row (registers.Combine value) = into_register (OfTwo value Named X)
 register_use_row registers.CountUp = register_row parameters.IncrementSkip
 register_use_row registers.CountDown = register_row parameters.DecrementSkip
 register_use_row registers.View = register_row parameters.View

@@ -19,7 +19,8 @@ use Rattle.h41_program.specs.Edits.{with_inserted}
 use Rattle.h41_program.specs.Edits.{with_replaced, without_deleted}
 use Rattle.h41_program.specs.private.Packers.{Packs, line_if}
 use Rattle.h41_program.specs.ProgramBytes.{final_position, program_bytes}
-use Rattle.h41_program.specs.ProgramLines.{FirstFrom, LinesFrom}
+use Rattle.h41_program.specs.FirstLines.{FirstFrom}
+use Rattle.h41_program.specs.ProgramLines.{LinesFrom}
 use Rattle.h41_program.specs.Rewriting.{with_program_lines, HasOutcome}
 
 -- The lines of a packer are written into memory.

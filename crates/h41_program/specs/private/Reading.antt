@@ -1,6 +1,6 @@
--- Definitions for the private functions that read program memory.
+-- Definitions for the private functions that read program memory, and for those of h41_walk.
 use Rattle.std.specs.Prelude.{◌≡◌, ◌≤◌, ◌<◌, ℕ, ◌+◌, ◌-◌, ◌/◌, false, MatchBool, List}
-use Rattle.std.specs.Prelude.{map, min}
+use Rattle.std.specs.Prelude.{if◌then◌else◌, map, min}
 use Rattle.std.specs.List.{range_with_len}
 use Rattle.h41_digits.specs.Register.{number_byte}
 use Rattle.h41_ram.specs.RegisterMap.{RegisterMap, curtain_of, register_at}
@@ -11,24 +11,26 @@ use Rattle.h41_program.specs.declared.reading.Found.{Found}
 use Rattle.h41_program.specs.declared.reading.LinePlace.{LinePlace}
 use Rattle.h41_program.specs.Lines.{is_end, is_final_end}
 use Rattle.h41_program.specs.ProgramBytes.{byte_count, program_byte}
-use Rattle.h41_program.specs.ProgramLines.{HasFirst, LinesFrom, PositionFrom}
+use Rattle.h41_program.specs.ProgramLines.{LinesFrom}
+use Rattle.h41_program.specs.Sources.{HasFirst, PositionFrom, Source}
 
 -- A line ends neither a program nor memory.
 abbrev pub EndsNothing : Line → Type 0
 EndsNothing line = (false ≡ is_end line) × (false ≡ is_final_end line)
 
--- The position of the line after a line, or of the byte just after it if no line follows. .END. is
--- followed by itself.
-abbrev pub FoundBehind : RegisterMap → Found → ℕ → Type 0
-FoundBehind memory first position =
-    MatchBool (is_final_end first.listed.line) (position ≡ first.listed.position)
-    (PositionFrom memory first.behind position)
+-- The position of the line after a line that was found, or of the byte just after it if no line
+-- follows.
+abbrev pub FoundBehind : Source → Found → ℕ → Type 0
+FoundBehind source found position =
+    MatchBool (source.ends found.listed.line)
+    (position ≡ (if source.stays then found.listed.position else found.behind))
+    (PositionFrom source found.behind position)
 
--- A fact about the first line of memory from a position on, which is at a place.
-abbrev pub OfPlace : RegisterMap → ℕ → LinePlace → (Line → Type 0) → Type 0
-OfPlace memory at place holds =
+-- A fact about the first line from a position on, which is at a place.
+abbrev pub OfPlace : Source → ℕ → LinePlace → (Line → Type 0) → Type 0
+OfPlace source at place holds =
     (line : Line)
-    → HasFirst memory at
+    → HasFirst source at
     (record { listed = record { position = place.position; line = line }; behind = place.behind })
     → holds line
 

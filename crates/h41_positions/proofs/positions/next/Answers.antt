@@ -9,8 +9,8 @@ returns-in-Ok-next g c =
     let pages = c.args.pages.now in
     let page = c.place_of-page.result.0 in
     let offset = c.place_of-page.result.1 in
-    let code = c.code.result.now in
+    let code = c.of.result.code.now in
     let is = subst (λ (r : Result ℕ ProgramRefusal). AnswersOffset code offset r) c.in-Ok-next.is c.next-in-Page.ensures in
     rw (c.in-Page.is, c.in_page.ensures)
     (next_there pages c.args.ram.now.registers c.in-Page.address page offset code c.place_of-page.ensures.page
-    c.place_of-page.ensures.offset c.code.ensures.code c.in-Ok-next.behind is)
+    c.place_of-page.ensures.offset c.of.ensures.code c.in-Ok-next.behind is)

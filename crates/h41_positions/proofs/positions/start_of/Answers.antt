@@ -1,4 +1,4 @@
-use Rattle.std.proofs.Common.{◌∙◌}
+use Rattle.h41_pages.specs.FunctionTables.{keystroke_offsets}
 use Rattle.h41_positions.proofs.PageAnswers.{start_there}
 use Rattle.h41_positions.proofs.positions.start_of.Goals as goal
 
@@ -7,18 +7,8 @@ returns-in-Page g c =
     let pages = c.args.pages.now in
     let page = c.place_of-page.result.0 in
     let offset = c.place_of-page.result.1 in
-    let begins = c.as_slice.result.now in
-    let start = c.start_of-in-Page.result in
+    let own = c.of.result in
     rw (c.in-Page.is, c.in_page.ensures)
-    (start_there pages c.args.ram.now.registers c.in-Page.address page offset c.code.result.now c.place_of-page.ensures.page
-    c.place_of-page.ensures.offset c.code.ensures.code begins (c.as_slice.ensures.value ∙ c.keystroke_offsets-begins.ensures.offsets)
-    start c.start_of-in-Page.ensures)
-
-pub code-requires : goal.code-requires
-code-requires g c = assumption
-
-pub in_page-requires : goal.in_page-requires
-in_page-requires g c = assumption
-
-pub start_of-requires : goal.start_of-requires
-start_of-requires g c = assumption
+    (start_there pages c.args.ram.now.registers c.in-Page.address page offset own.code.now c.place_of-page.ensures.page
+    c.place_of-page.ensures.offset c.of.ensures.code (keystroke_offsets own.pages.now own.page)
+    (λ i. keystroke_offsets (c.of.ensures.pages i) (c.of.ensures.page i)) c.start_of-in-Page.result c.start_of-in-Page.ensures)

@@ -1,6 +1,0 @@
-use Rattle.h41_positions.proofs.PageStarts.{IsKept}
-use Rattle.h41_positions.proofs.page_programs.start_reaching.Given as goal
-
--- The least of the offsets so far that reach the given one.
-abbrev pub invariant-loop-index : goal.invariant-loop-index
-invariant-loop-index l = IsKept l.code l.begins l.at l.index l.least

@@ -1,0 +1,4 @@
+pub mod Answering
+pub mod LabelBytes
+pub mod MemoryPrograms
+pub mod Walks

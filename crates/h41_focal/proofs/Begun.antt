@@ -1,9 +1,8 @@
 -- The machine after a line, compared with memory and cached answers before the line began.
-use Rattle.std.proofs.Common.{◌≡◌, false, Option, Ok, Err, Result, OnErr, ap, subst, sym, ◌∙◌}
-use Rattle.h41_codes.specs.declared.functions.Function.{Function}
+use Rattle.std.proofs.Common.{◌≡◌, false, Ok, Err, Result, OnErr, ap, subst, sym, ◌∙◌}
 use Rattle.h41_codes.specs.declared.line.Line.{Line}
 use Rattle.h41_focal.specs.LabelSearches.{StepKeeps}
-use Rattle.h41_focal.specs.LineStep.{Stands, line_as}
+use Rattle.h41_focal.specs.LineStep.{Stands}
 use Rattle.h41_focal.specs.declared.origin.Origin.TheVariants.{Program}
 use Rattle.h41_focal.specs.declared.refusal.FocalRefusal.{FocalRefusal}
 use Rattle.h41_focal.specs.private.Searching.{AsksOf}
@@ -16,15 +15,15 @@ use Rattle.h41_ram.specs.RamState.{KeepsMark, RamState}
 use Rattle.h41_rows.specs.RowMarks.{LeavesMark}
 
 -- No line can be read at the position.
-pub record Refuses (pages : PageMap) (function : Option Function) (old new : LabelledMachine) : Type 0 where
+pub record Refuses (pages : PageMap) (old new : LabelledMachine) : Type 0 where
   pub unchanged : machine_of new ≡ machine_of old
-  pub kept : StepKeeps pages function old new
+  pub kept : StepKeeps pages old new
   pub mark : KeepsMark (begun_ram old.ram) new.ram
   pub clear : new.ram.touched ≡ false
 
-pub refuses : (pages : PageMap) (function : Option Function) (old begun : LabelledMachine) (refusal : FocalRefusal)
-    → begun ≡ with_line_begun old → Stands pages (machine_of begun) (Err refusal) → Refuses pages function old begun
-refuses pages function old begun refusal is stands =
+pub refuses : (pages : PageMap) (old begun : LabelledMachine) (refusal : FocalRefusal)
+    → begun ≡ with_line_begun old → Stands pages (machine_of begun) (Err refusal) → Refuses pages old begun
+refuses pages old begun refusal is stands =
     record {
       unchanged = ap machine_of is;
       kept = (
@@ -39,30 +38,36 @@ refuses pages function old begun refusal is stands =
     }
 
 -- A line can be read at the position.
-pub record Takes {A : Type 0} (pages : PageMap) (function : Option Function) (old new : LabelledMachine) (result : Result A FocalRefusal)
+pub record Takes {A : Type 0} (pages : PageMap) (old new : LabelledMachine) (result : Result A FocalRefusal)
     : Type 0 where
   pub unchanged : OnErr result (machine_of new ≡ machine_of old)
-  pub kept : StepKeeps pages function old new
+  pub kept : StepKeeps pages old new
   pub mark : KeepsMark (begun_ram old.ram) new.ram
   pub clear : new.ram.touched ≡ false
 
-pub takes : {A : Type 0} (pages : PageMap) (function : Option Function) (old begun new : LabelledMachine) (line : Line) (next : Position)
+pub takes : {A : Type 0} (pages : PageMap) (old begun new : LabelledMachine) (line : Line) (next : Position)
     (result : Result A FocalRefusal)
-    → begun ≡ with_line_begun old → Stands pages (machine_of begun) (Ok (line, next)) → OnErr result (new ≡ begun)
-    → AsksOf (Program next) (line_as function line) begun new → KeepsMark begun.ram new.ram → LeavesMark begun.ram new.ram
-    → Takes pages function old new result
-takes pages function old begun new line next result is stands unchanged asks keeps left =
+    → begun ≡ with_line_begun old → Stands pages (machine_of begun) (Ok (line, next)) → OnErr result (machine_of new ≡ machine_of begun)
+    → AsksOf (Program next) line begun new → KeepsMark begun.ram new.ram → LeavesMark begun.ram new.ram
+    → Takes pages old new result
+takes pages old begun new line next result is stands unchanged asks keeps left =
     record {
       unchanged = still result unchanged;
       kept = (
         Ok (line, next),
         subst (λ (machine : Machine). Stands pages machine (Ok (line, next))) (ap machine_of is) stands,
-        subst (λ (labelled : LabelledMachine). AsksOf (Program next) (line_as function line) labelled new) is asks,
+        subst (λ (labelled : LabelledMachine). AsksOf (Program next) line labelled new) is asks,
       );
       mark = subst (λ (labelled : LabelledMachine). KeepsMark labelled.ram new.ram) is keeps;
       clear = left stands.0 ∙ ap (λ (labelled : LabelledMachine). labelled.ram.touched) is;
     }
   where
-    still : {B : Type 0} (result : Result B FocalRefusal) → OnErr result (new ≡ begun) → OnErr result (machine_of new ≡ machine_of old)
+    still : {B : Type 0} (result : Result B FocalRefusal) → OnErr result (machine_of new ≡ machine_of begun) → OnErr result (machine_of new ≡ machine_of old)
     still (Ok value) same = tt
-    still (Err refusal) same = ap machine_of (same ∙ is)
+    still (Err refusal) same = same ∙ ap machine_of is
+
+-- A machine that is unchanged with its cached answers.
+pub same_machine : {A : Type 0} (old new : LabelledMachine) (result : Result A FocalRefusal)
+    → OnErr result (new ≡ old) → OnErr result (machine_of new ≡ machine_of old)
+same_machine old new (Ok value) same = tt
+same_machine old new (Err refusal) same = ap machine_of same

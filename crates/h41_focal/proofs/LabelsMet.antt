@@ -1,10 +1,12 @@
 -- Branches to labels, and returns, by the answers of the searches.
-use Rattle.std.proofs.Common.{◌≡◌, ℕ, List, [], ◌∷◌, Some, None, Ok, refl, reverse}
+use Rattle.std.proofs.Common.{◌≡◌, ℕ, List, [], ◌∷◌, Some, None, Ok, Result, refl, reverse}
 use Rattle.h41_codes.specs.declared.functions.Branch.{Branch}
 use Rattle.h41_codes.specs.declared.functions.Branch.TheVariants.{GoTo, Execute}
 use Rattle.h41_focal.specs.private.Arrivals.{GoesBackFrom, ReturnsFrom, answer_at, focal_at, from_of}
-use Rattle.h41_focal.specs.private.Carrying.{CarriesRow, LineFails}
+use Rattle.h41_focal.specs.private.Carrying.{CallsNamed, CarriesRow, CarriesRowWhole, LineFails}
 use Rattle.h41_focal.specs.Destinations as destinations
+use Rattle.h41_focal.specs.Outcomes as answers
+use Rattle.h41_focal.specs.declared.refusal.FocalRefusal.{FocalRefusal}
 use Rattle.h41_rows.specs.LineRows as lines
 use Rattle.h41_positions.specs.FocalState.{Machine, at_halt}
 use Rattle.h41_focal.specs.private.Works.{row_of_work}
@@ -93,14 +95,22 @@ name_lost pages (Program next) name named old new outcome lost fails =
 name_lost pages Typed name named old new outcome lost fails =
     (Ok zeros, refl, (destinations.HasNoLabel, (None, lost, refl), fails))
 
--- A name was not found: for XEQ the calculator searches elsewhere.
+-- A name was not found: XEQ calls what has the name outside memory.
 pub name_sought :
-    (pages : PageMap) (origin : Origin) (name : List ℕ) (named : ℕ) (machine : Machine)
-    → AnswersOf (λ lines. position_of (named_in name lines)) machine.memory 0 None
-    → CarriesRow pages origin (lines.to_name Execute name) named machine machine (Ok (outcomes.Seeks name))
-name_sought pages (Program next) name named machine lost =
-    (Ok zeros, refl, (destinations.Seeks name, (None, lost, refl), refl))
-name_sought pages Typed name named machine lost = (Ok zeros, refl, (destinations.Seeks name, (None, lost, refl), refl))
+    (pages : PageMap) (origin : Origin) (name : List ℕ) (named : ℕ) (old new : Machine) (result : Result LineOutcome FocalRefusal)
+    → AnswersOf (λ lines. position_of (named_in name lines)) old.memory 0 None
+    → CallsNamed pages origin name old new result
+    → CarriesRowWhole pages origin (lines.to_name Execute name) named old new result
+name_sought pages (Program next) name named old new result lost calls = (
+  Ok (record { machine = old; answer = answers.Seeks name }),
+  (Ok zeros, refl, (destinations.Seeks name, (None, lost, refl), refl)),
+  calls,
+)
+name_sought pages Typed name named old new result lost calls = (
+  Ok (record { machine = old; answer = answers.Seeks name }),
+  (Ok zeros, refl, (destinations.Seeks name, (None, lost, refl), refl)),
+  calls,
+)
 
 -- A line returns.
 back_from : (pages : PageMap) (returns : List Position) (old new : Machine) (outcome : LineOutcome) (next : Position) (named : ℕ)

@@ -5,6 +5,7 @@ mod OutsideCalls
 mod LabelsMet
 mod LabelsRight
 mod LinesTaken
+mod Named
 mod OneOutcome
 mod RowApplied
 mod RowAsked

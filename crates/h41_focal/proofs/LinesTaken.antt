@@ -4,14 +4,13 @@ use Rattle.std.proofs.Common.{◌≡◌, ℕ, Bool, true, false, IfNone, IfSome,
 use Rattle.h41_codes.specs.declared.functions.Function.{Function}
 use Rattle.h41_codes.specs.declared.functions.ParameterFunction.{ParameterFunction}
 use Rattle.h41_codes.specs.declared.functions.RegisterFunction.{RegisterFunction}
-use Rattle.h41_codes.specs.declared.line.Line.{Line}
 use Rattle.h41_codes.specs.declared.line.Line.TheVariants as lines
 use Rattle.h41_codes.specs.declared.line.Operand.{Operand}
 use Rattle.h41_codes.specs.declared.short_lines.ShortLine.{ShortLine}
 use Rattle.h41_codes.specs.ShortLines.{line_of}
 use Rattle.h41_focal.specs.private.Carrying.{CarriesFound, CarriesRow, StandsNoShort, StandsNumber, TakesAs}
 use Rattle.h41_focal.specs.private.Carrying.{UsesAddress, UsesDigits, UsesFlag}
-use Rattle.h41_focal.specs.LineStep.{StandsAt, stack_lift_after}
+use Rattle.h41_focal.specs.LineStep.{StandsAt}
 use Rattle.h41_positions.specs.FocalState.{Machine}
 use Rattle.h41_focal.specs.private.Works.{digits_use_row, flag_use_row, highest_of, register_use_row, row_of_work}
 use Rattle.h41_focal.specs.declared.origin.Origin.{Origin}
@@ -122,25 +121,6 @@ pub unsearched : (memory : RegisterMap) (out : Bool) (old new : List KeptAnswer)
     → KeepsSearch memory (if out then None else None) old new
 unsearched memory true old new same = same
 unsearched memory false old new same = same
-
--- After a line that is no XROM line, stack lift is unchanged.
-pub lift_kept : (line : Line) (lift : Bool) → ((number entry : ℕ) → line ≡ lines.Module number entry → ⊥)
-    → stack_lift_after line lift ≡ lift
-lift_kept (lines.Module number entry) lift other = absurd (other number entry refl)
-lift_kept lines.Null lift other = refl
-lift_kept (lines.LocalLabel label) lift other = refl
-lift_kept (lines.Number number) lift other = refl
-lift_kept (lines.Named function name) lift other = refl
-lift_kept (lines.Register function register) lift other = refl
-lift_kept (lines.Plain function) lift other = refl
-lift_kept (lines.WithOperand function operand) lift other = refl
-lift_kept (lines.BranchIndirect branch register) lift other = refl
-lift_kept (lines.ShortGoTo label distance) lift other = refl
-lift_kept (lines.GlobalLabel link key name) lift other = refl
-lift_kept (lines.End link marks) lift other = refl
-lift_kept (lines.FinalEnd link marks) lift other = refl
-lift_kept (lines.BranchTo branch distance backwards label) lift other = refl
-lift_kept (lines.Text text) lift other = refl
 
 -- The line at the position is a number line or a short line, by the answers of program memory.
 pub number_stands : (pages : PageMap) (machine : Machine) (at : ℕ) (number : Ten) (next : ℕ)

@@ -5,20 +5,23 @@ use Rattle.std.specs.Option.{option_map}
 use Rattle.std.specs.Prelude.{MatchBool}
 use Rattle.h41_codes.specs.declared.functions.Function.{Function}
 use Rattle.h41_codes.specs.declared.line.Line.{Line}
-use Rattle.h41_codes.specs.declared.line.Line.TheVariants.{Module}
+use Rattle.h41_codes.specs.declared.line.Line.TheVariants.{Module, Plain}
 use Rattle.h41_focal.specs.Destinations.{Arrives, Asks, Destination, Goes, GoesBack, Halts, HasNoLabel, HasNoLine, Manner, Passes, Runs}
 use Rattle.h41_focal.specs.Destinations.{Seeks, Stays}
 use Rattle.h41_focal.specs.Destinations.{Stepped, StepsFrom, Tells, Typed, TypedFrom, found_at, lost_name, typed_at}
-use Rattle.h41_focal.specs.LineLaws.{EnteringIsDetermined, FailureIsDetermined, PassingIsDetermined, StepIsDetermined, TypedIsDetermined}
-use Rattle.h41_focal.specs.LineLaws.{TypedFailureIsDetermined}
-use Rattle.h41_focal.specs.LineStep.{Applies, AppliesTo, AppliesWith, CarriesOut, ComputesIn, Ends, EndsInError, FailsIfRead, Left}
+use Rattle.h41_focal.specs.LineLaws.{LineIsDetermined, NameIsDetermined, StepIsDetermined, TypedIsDetermined}
+use Rattle.h41_focal.specs.LineStep.{Applies, AppliesTo, AppliesWith, CarriesOut, ComputesIn, Ends, Left}
 use Rattle.h41_positions.specs.FocalState.{Machine}
-use Rattle.h41_focal.specs.LineStep.{EntersWith, PassesWith, Stands, StandsAt, StepsAs, TakesLine, Works, answer_of_showing, line_as}
+use Rattle.h41_focal.specs.LineStep.{Stands, StandsAt, StepsAs, TakesLine, Works, answer_of_showing}
 use Rattle.h41_focal.specs.LineStep.{named_by}
 use Rattle.h41_focal.specs.LineStep.{with_row}
 use Rattle.h41_focal.specs.Outcomes.{Answer}
+use Rattle.h41_focal.specs.Outcomes as answers
+use Rattle.h41_focal.specs.OutsideCalls as sources
+use Rattle.h41_focal.specs.OutsideCalls.{CallsName, CarriesNamed, CarriesStanding, CarriesWhole, GoesOn, GoesOnFrom}
 use Rattle.h41_focal.specs.declared.refusal.FocalRefusal.{FocalRefusal}
 use Rattle.h41_focal.specs.declared.refusal.FocalRefusal.TheVariants.{BrokenProgram, MemoryLost, NotInProfile}
+use Rattle.h41_pages.specs.FunctionTables.{function_of_name}
 use Rattle.h41_pages.specs.PageMap.{PageMap}
 use Rattle.h41_positions.proofs.OneNext.{same_next}
 use Rattle.h41_positions.specs.PositionLaws.{HasOneAnswer, HasOneAnswerEach, IsReadOnce}
@@ -97,44 +100,6 @@ module _ (once : IsReadOnce) where
       same machine other a b
       (subst (λ (standing : Result (Line × Position) FocalRefusal). does machine standing a)
       (same_standing pages machine.memory machine.focal.position standing other stands stands_so) p) q
-
-  -- A line that fails has one outcome.
-  same_outside : (fault : LineFault) (machine : Machine) (standing : Result (Line × Position) FocalRefusal)
-      (a b : Result Left FocalRefusal)
-      → FailsIfRead fault machine standing a → FailsIfRead fault machine standing b → a ≡ b
-  same_outside fault machine (Ok standing) a b p q = p ∙ sym q
-  same_outside fault machine (Err refusal) a b p q = p ∙ sym q
-
-  pub failure_determined : FailureIsDetermined
-  failure_determined pages fault machine a b p q = by_standing pages (FailsIfRead fault) (same_outside fault) machine a b p q
-
-  -- A line whose function is executed elsewhere has one outcome.
-  same_beyond : (machine : Machine) (standing : Result (Line × Position) FocalRefusal) (a b : Result Machine FocalRefusal)
-      → PassesWith machine standing a → PassesWith machine standing b → a ≡ b
-  same_beyond machine (Ok standing) a b p q = p ∙ sym q
-  same_beyond machine (Err refusal) a b p q = p ∙ sym q
-
-  pub passing_determined : PassingIsDetermined
-  passing_determined pages machine a b p q = by_standing pages PassesWith same_beyond machine a b p q
-
-  -- A line that calls a program of a page has one outcome.
-  same_called : (address : ℕ) (machine : Machine) (standing : Result (Line × Position) FocalRefusal) (a b : Result Machine FocalRefusal)
-      → EntersWith address machine standing a → EntersWith address machine standing b → a ≡ b
-  same_called address machine (Ok standing) a b p q = p ∙ sym q
-  same_called address machine (Err refusal) a b p q = p ∙ sym q
-
-  pub entering_determined : EnteringIsDetermined
-  entering_determined pages address machine a b p q = by_standing pages (EntersWith address) (same_called address) machine a b p q
-
--- A typed line that fails has one outcome.
-same_typed_failure : (sound : Bool) (fault : LineFault) (machine : Machine) (a b : Result Left FocalRefusal)
-    → MatchBool sound (EndsInError Typed machine fault a) (a ≡ Err MemoryLost)
-    → MatchBool sound (EndsInError Typed machine fault b) (b ≡ Err MemoryLost) → a ≡ b
-same_typed_failure true fault machine a b p q = p ∙ sym q
-same_typed_failure false fault machine a b p q = p ∙ sym q
-
-pub typed_failure_determined : TypedFailureIsDetermined
-typed_failure_determined fault machine a b p q = same_typed_failure (is_sound machine.memory) fault machine a b p q
 
 -- The register that a row computes is determined, given that each value has one register or one error.
 module _ (same_value : ValuesAreDetermined) where
@@ -298,12 +263,63 @@ module _
   typed_determined pages line machine a b p q = same_typed pages (is_sound machine.memory) line machine a b p q
 
   -- A stepped line has one outcome.
-  same_stepped : (pages : PageMap) (function : Option Function) (machine : Machine) (standing : Result (Line × Position) FocalRefusal)
+  same_stepped : (pages : PageMap) (machine : Machine) (standing : Result (Line × Position) FocalRefusal)
       (a b : Result Left FocalRefusal)
-      → StepsAs pages function machine standing a → StepsAs pages function machine standing b → a ≡ b
-  same_stepped pages function machine (Ok (line, next)) a b p q = same_taken pages (Stepped next) (line_as function line) machine a b p q
-  same_stepped pages function machine (Err refusal) a b p q = p ∙ sym q
+      → StepsAs pages machine standing a → StepsAs pages machine standing b → a ≡ b
+  same_stepped pages machine (Ok (line, next)) a b p q = same_taken pages (Stepped next) line machine a b p q
+  same_stepped pages machine (Err refusal) a b p q = p ∙ sym q
 
   pub step_determined : StepIsDetermined
-  step_determined pages function machine a b p q =
-      by_standing once pages (StepsAs pages function) (same_stepped pages function) machine a b p q
+  step_determined pages machine a b p q = by_standing once pages (StepsAs pages) (same_stepped pages) machine a b p q
+
+  -- What a line calls outside program memory has one outcome, given that a name names at most one function.
+  module _ (same_function : NameIsDetermined) where
+    same_named : (pages : PageMap) (how : Manner) (function : Option Function) (machine : Machine) (a b : Result Left FocalRefusal)
+        → CarriesNamed pages how function machine a → CarriesNamed pages how function machine b → a ≡ b
+    same_named pages how (Some function) machine a b p q = same_taken pages how (Plain function) machine a b p q
+    same_named pages how None machine a b p q = p ∙ sym q
+
+    same_name : (pages : PageMap) (how : Manner) (numbers : Option (ℕ × ℕ)) (name : List ℕ) (machine : Machine)
+        (a b : Result Left FocalRefusal)
+        → CallsName pages how numbers name machine a → CallsName pages how numbers name machine b → a ≡ b
+    same_name pages how (Some numbers) name machine a b p q = p ∙ sym q
+    same_name pages how None name machine a b (function, named, carries) (other, named_so, carries_so) =
+        let same : function ≡ other = same_function name function other named named_so in
+        same_named pages how other machine a b
+        (subst (λ (of : Option Function). CarriesNamed pages how of machine a) same carries) carries_so
+
+    same_going : (pages : PageMap) (how : Manner) (machine : Machine) (left : Left) (answer : Answer) (a b : Result Left FocalRefusal)
+        → GoesOn pages how machine left answer a → GoesOn pages how machine left answer b → a ≡ b
+    same_going pages how machine left (answers.Calls number entry) a b p q = p ∙ sym q
+    same_going pages how machine left (answers.Seeks name) a b p q =
+        same_name pages how (function_of_name pages name) name machine a b p q
+    same_going pages how machine left answer a b p q = p ∙ sym q
+
+    same_from : (pages : PageMap) (how : Manner) (machine : Machine) (own a b : Result Left FocalRefusal)
+        → GoesOnFrom pages how machine own a → GoesOnFrom pages how machine own b → a ≡ b
+    same_from pages how machine (Ok left) a b p q = same_going pages how machine left left.answer a b p q
+    same_from pages how machine (Err refusal) a b p q = p ∙ sym q
+
+    same_whole : (pages : PageMap) (how : Manner) (line : Line) (machine : Machine) (a b : Result Left FocalRefusal)
+        → CarriesWhole pages how line machine a → CarriesWhole pages how line machine b → a ≡ b
+    same_whole pages how line machine a b (own, takes, goes) (other, takes_so, goes_so) =
+        let same : own ≡ other = same_taken pages how line machine own other takes takes_so in
+        same_from pages how machine other a b (subst (λ (of : Result Left FocalRefusal). GoesOnFrom pages how machine of a) same goes) goes_so
+
+    same_standing_whole : (pages : PageMap) (machine : Machine) (standing : Result (Line × Position) FocalRefusal)
+        (a b : Result Left FocalRefusal)
+        → CarriesStanding pages machine standing a → CarriesStanding pages machine standing b → a ≡ b
+    same_standing_whole pages machine (Ok (line, next)) a b p q = same_whole pages (Stepped next) line machine a b p q
+    same_standing_whole pages machine (Err refusal) a b p q = p ∙ sym q
+
+    same_typed_whole : (sound : Bool) (pages : PageMap) (line : Line) (machine : Machine) (a b : Result Left FocalRefusal)
+        → MatchBool sound (CarriesWhole pages Typed line machine a) (a ≡ Err MemoryLost)
+        → MatchBool sound (CarriesWhole pages Typed line machine b) (b ≡ Err MemoryLost) → a ≡ b
+    same_typed_whole true pages line machine a b p q = same_whole pages Typed line machine a b p q
+    same_typed_whole false pages line machine a b p q = p ∙ sym q
+
+    pub line_determined : LineIsDetermined
+    line_determined sources.Program pages machine a b p q =
+        by_standing once pages (CarriesStanding pages) (same_standing_whole pages) machine a b p q
+    line_determined (sources.Keys line) pages machine a b p q =
+        same_typed_whole (is_sound machine.memory) pages line machine a b p q

@@ -1,29 +1,26 @@
--- A line that calls something outside memory changes nothing.
-use Rattle.std.proofs.Common.{◌≡◌, ℕ, Bool, true, false, List, Ok, Err, Result, refl, sym, ap, ◌∙◌, true≢false}
-use Rattle.std.specs.Prelude.{MatchBool, if◌then◌else◌}
+-- Lines that call nothing outside program memory.
+use Rattle.std.proofs.Common.{◌≡◌, ℕ, Bool, true, false, Ok, Err, Result, refl, ap, ◌∙◌}
+use Rattle.std.specs.Prelude.{if◌then◌else◌}
 use Rattle.h41_codes.specs.declared.line.Line.{Line}
-use Rattle.h41_codes.specs.declared.line.Line.TheVariants as lines
-use Rattle.h41_focal.specs.Destinations.{Arrives, Destination, Halts, HasNoLabel, HasNoLine, Manner, Runs, Seeks, Stays, Stepped, Tells}
-use Rattle.h41_focal.specs.Destinations.{Typed}
-use Rattle.h41_focal.specs.private.Carrying.{TakesAs, manner_of}
-use Rattle.h41_focal.specs.MachineCalls.{OutsideCallKeeps}
-use Rattle.h41_focal.specs.LineStep.{AppliesTo, AppliesWith, CarriesOut, Ends, EndsInError, Left, TakesLine, answer_of_showing}
-use Rattle.h41_positions.specs.FocalState.{Machine}
-use Rattle.h41_focal.specs.LineStep.{error_flag, left_by_fault, left_done, left_failed, named_by, with_fault_caught}
-use Rattle.h41_positions.specs.FocalState.{at_line}
-use Rattle.h41_focal.specs.Outcomes.{Answer, calls_outside}
+use Rattle.h41_codes.specs.declared.line.Line.TheVariants.{Module}
+use Rattle.h41_focal.specs.Destinations.{Manner, Stepped, Typed}
+use Rattle.h41_focal.specs.LineStep.{EndsInError, Left, answer_of_showing, error_flag, left_by_fault, left_done, left_failed}
+use Rattle.h41_focal.specs.LineStep.{with_fault_caught}
+use Rattle.h41_focal.specs.MachineCalls.{carried_as}
+use Rattle.h41_focal.specs.Outcomes.{Calls, calls_outside}
+use Rattle.h41_focal.specs.OutsideCalls.{GoesOnFrom}
 use Rattle.h41_focal.specs.declared.origin.Origin.{Origin}
 use Rattle.h41_focal.specs.declared.outcome.LineOutcome.{LineOutcome}
+use Rattle.h41_focal.specs.declared.outcome.LineOutcome.TheVariants as outcomes
 use Rattle.h41_focal.specs.declared.refusal.FocalRefusal.{FocalRefusal}
-use Rattle.h41_focal.specs.declared.refusal.FocalRefusal.TheVariants.{NotInProfile}
+use Rattle.h41_focal.specs.private.Carrying.{CallsEntry, CarriesAs, CarriesRow, CarriesRowWhole, TakesAs, manner_of}
+use Rattle.h41_pages.specs.FunctionTables.{entry_at}
 use Rattle.h41_pages.specs.PageMap.{PageMap}
+use Rattle.h41_positions.specs.FocalState.{Machine, at_line}
 use Rattle.h41_ram.specs.RegisterMap.{RegisterMap, flag_of}
-use Rattle.h41_rows.specs.LineRows.{row_of}
-use Rattle.h41_rows.specs.Operands.{Meant, meant_of}
-use Rattle.h41_rows.specs.Profile.{is_left_out}
 use Rattle.h41_rows.specs.Rows as rows
+use Rattle.h41_rows.specs.Rows.{LineRow}
 use Rattle.h41_rows.specs.declared.fault.LineFault.{LineFault}
-use Rattle.h41_rows.specs.declared.fault.LineFault.TheVariants.{Nonexistent}
 
 -- The answer of a row calls nothing outside memory.
 pub own_answer : (memory : RegisterMap) (named : ℕ) (shows : rows.Showing) (ends : rows.RowEnding)
@@ -38,11 +35,6 @@ own_answer memory named rows.NamedText rows.TurnsOff = refl
 own_answer memory named rows.AlphaText rows.GoesOn = refl
 own_answer memory named rows.AlphaText rows.Stops = refl
 own_answer memory named rows.AlphaText rows.TurnsOff = refl
-
--- An answer that calls nothing outside memory cannot be one that does.
-never : (left : Left) (answer : Answer) (old : Machine) → left.answer ≡ answer → calls_outside answer ≡ false
-    → calls_outside left.answer ≡ true → left.machine ≡ old
-never left answer old is own elsewhere = absurd (true≢false (sym elsewhere ∙ (ap calls_outside is ∙ own)))
 
 -- A line that fails.
 own_fault : (flag : Bool) (caught stopped : Machine) (fault : LineFault)
@@ -64,90 +56,36 @@ pub fails_here : (how : Manner) (machine : Machine) (fault : LineFault) (left : 
 fails_here how machine fault left failing =
     ap (λ (of : Left). calls_outside of.answer) (same_left left (left_by_fault how machine fault) failing) ∙ fault_left how machine fault
 
-fails_in : (how : Manner) (machine old : Machine) (fault : LineFault) (left : Left) → EndsInError how machine fault (Ok left)
-    → calls_outside left.answer ≡ true → left.machine ≡ old
-fails_in how machine old fault left failing elsewhere =
-    never left left.answer old refl (fails_here how machine fault left failing) elsewhere
+-- An outcome is the answer of the line with all that it calls.
+goes_on_itself : (pages : PageMap) (how : Manner) (old new : Machine) (result : Result LineOutcome FocalRefusal)
+    → GoesOnFrom pages how old (carried_as new result) (carried_as new result)
+goes_on_itself pages how old new (Ok outcomes.Done) = refl
+goes_on_itself pages how old new (Ok outcomes.Stopped) = refl
+goes_on_itself pages how old new (Ok outcomes.TurnedOff) = refl
+goes_on_itself pages how old new (Ok outcomes.ViewedAlpha) = refl
+goes_on_itself pages how old new (Ok (outcomes.ViewedRegister address)) = refl
+goes_on_itself pages how old new (Ok outcomes.Prompted) = refl
+goes_on_itself pages how old new (Ok outcomes.Cleared) = refl
+goes_on_itself pages how old new (Ok (outcomes.Answered holds)) = refl
+goes_on_itself pages how old new (Ok outcomes.Runs) = refl
+goes_on_itself pages how old new (Ok (outcomes.Begins address)) = refl
+goes_on_itself pages how old new (Ok (outcomes.Failed fault)) = refl
+goes_on_itself pages how old new (Err refusal) = refl
 
--- A row.
-ends_keeps : (how : Manner) (old new : Machine) (answer : Answer) (to : Destination) (left : Left) → calls_outside answer ≡ false
-    → Ends how old new answer to (Ok left) → calls_outside left.answer ≡ true → left.machine ≡ old
-ends_keeps how old new answer (Arrives position returns) left own is elsewhere =
-    never left answer old (ap (λ (of : Left). of.answer) (same_left left _ is)) own elsewhere
-ends_keeps (Stepped next) old new answer (Halts start) left own is elsewhere =
-    never left _ old (ap (λ (of : Left). of.answer) (same_left left _ is)) refl elsewhere
-ends_keeps Typed old new answer (Halts start) left own is elsewhere =
-    never left _ old (ap (λ (of : Left). of.answer) (same_left left _ is)) refl elsewhere
-ends_keeps how old new answer Stays left own is elsewhere =
-    never left answer old (ap (λ (of : Left). of.answer) (same_left left _ is)) own elsewhere
-ends_keeps how old new answer (Tells holds) left own is elsewhere =
-    never left _ old (ap (λ (of : Left). of.answer) (same_left left _ is)) refl elsewhere
-ends_keeps how old new answer (Runs position) left own is elsewhere =
-    never left _ old (ap (λ (of : Left). of.answer) (same_left left _ is)) refl elsewhere
-ends_keeps how old new answer (Seeks name) left own is elsewhere = ap (λ (of : Left). of.machine) (same_left left _ is)
-ends_keeps how old new answer HasNoLabel left own failing elsewhere = fails_in how old old Nonexistent left failing elsewhere
-ends_keeps how old new answer HasNoLine left own is elsewhere = cc
+pub carries_whole : (pages : PageMap) (origin : Origin) (line : Line) (old new : Machine) (result : Result LineOutcome FocalRefusal)
+    → TakesAs pages origin line old new result → CarriesAs pages origin line old new result
+carries_whole pages origin line old new result takes =
+    (carried_as new result, takes, goes_on_itself pages (manner_of origin) old new result)
 
-applies_with : (pages : PageMap) (how : Manner) (row : rows.LineRow) (named : ℕ) (machine : Machine) (result : Result (List ℕ) LineFault)
-    (left : Left)
-    → AppliesWith pages how row named machine result (Ok left) → calls_outside left.answer ≡ true → left.machine ≡ machine
-applies_with pages how row named machine (Err fault) left failing elsewhere = fails_in how machine machine fault left failing elsewhere
-applies_with pages how row named machine (Ok result) left (to, goes, ends) elsewhere =
-    ends_keeps how machine _ _ to left (own_answer machine.memory named row.shows row.ends) ends elsewhere
+pub row_carries_whole : (pages : PageMap) (origin : Origin) (row : LineRow) (named : ℕ) (old new : Machine)
+    (result : Result LineOutcome FocalRefusal)
+    → CarriesRow pages origin row named old new result → CarriesRowWhole pages origin row named old new result
+row_carries_whole pages origin row named old new result applies =
+    (carried_as new result, applies, goes_on_itself pages (manner_of origin) old new result)
 
-applies_to : (pages : PageMap) (how : Manner) (line : Line) (machine : Machine) (meant : Result Meant LineFault) (left : Left)
-    → AppliesTo pages how line machine meant (Ok left) → calls_outside left.answer ≡ true → left.machine ≡ machine
-applies_to pages how line machine (Err fault) left failing elsewhere = fails_in how machine machine fault left failing elsewhere
-applies_to pages how line machine (Ok meant) left (result, works, applies) elsewhere =
-    applies_with pages how (row_of line meant) (named_by meant) machine result left applies elsewhere
-
--- A line.
-carries_out : (pages : PageMap) (how : Manner) (line : Line) (machine : Machine) (left : Left) → CarriesOut pages how line machine (Ok left)
-    → calls_outside left.answer ≡ true → left.machine ≡ machine
-carries_out pages how (lines.Module number entry) machine left is elsewhere = ap (λ (of : Left). of.machine) (same_left left _ is)
-carries_out pages how lines.Null machine left is elsewhere =
-    applies_to pages how lines.Null machine (meant_of machine.memory lines.Null) left is elsewhere
-carries_out pages how (lines.LocalLabel a) machine left is elsewhere =
-    applies_to pages how (lines.LocalLabel a) machine (meant_of machine.memory (lines.LocalLabel a)) left is elsewhere
-carries_out pages how (lines.GlobalLabel a b c) machine left is elsewhere =
-    applies_to pages how (lines.GlobalLabel a b c) machine (meant_of machine.memory (lines.GlobalLabel a b c)) left is elsewhere
-carries_out pages how (lines.Number a) machine left is elsewhere =
-    applies_to pages how (lines.Number a) machine (meant_of machine.memory (lines.Number a)) left is elsewhere
-carries_out pages how (lines.Named a b) machine left is elsewhere =
-    applies_to pages how (lines.Named a b) machine (meant_of machine.memory (lines.Named a b)) left is elsewhere
-carries_out pages how (lines.Register a b) machine left is elsewhere =
-    applies_to pages how (lines.Register a b) machine (meant_of machine.memory (lines.Register a b)) left is elsewhere
-carries_out pages how (lines.Plain a) machine left is elsewhere =
-    applies_to pages how (lines.Plain a) machine (meant_of machine.memory (lines.Plain a)) left is elsewhere
-carries_out pages how (lines.WithOperand a b) machine left is elsewhere =
-    applies_to pages how (lines.WithOperand a b) machine (meant_of machine.memory (lines.WithOperand a b)) left is elsewhere
-carries_out pages how (lines.BranchIndirect a b) machine left is elsewhere =
-    applies_to pages how (lines.BranchIndirect a b) machine (meant_of machine.memory (lines.BranchIndirect a b)) left is elsewhere
-carries_out pages how (lines.ShortGoTo a b) machine left is elsewhere =
-    applies_to pages how (lines.ShortGoTo a b) machine (meant_of machine.memory (lines.ShortGoTo a b)) left is elsewhere
-carries_out pages how (lines.End a b) machine left is elsewhere =
-    applies_to pages how (lines.End a b) machine (meant_of machine.memory (lines.End a b)) left is elsewhere
-carries_out pages how (lines.FinalEnd a b) machine left is elsewhere =
-    applies_to pages how (lines.FinalEnd a b) machine (meant_of machine.memory (lines.FinalEnd a b)) left is elsewhere
-carries_out pages how (lines.BranchTo a b c d) machine left is elsewhere =
-    applies_to pages how (lines.BranchTo a b c d) machine (meant_of machine.memory (lines.BranchTo a b c d)) left is elsewhere
-carries_out pages how (lines.Text a) machine left is elsewhere =
-    applies_to pages how (lines.Text a) machine (meant_of machine.memory (lines.Text a)) left is elsewhere
-
-takes_by : (pages : PageMap) (out : Bool) (how : Manner) (line : Line) (machine : Machine) (left : Left)
-    → MatchBool out (◌≡◌ {A = Result Left FocalRefusal} (Ok left) (Err NotInProfile)) (CarriesOut pages how line machine (Ok left))
-    → calls_outside left.answer ≡ true → left.machine ≡ machine
-takes_by pages true how line machine left is elsewhere = cc
-takes_by pages false how line machine left carries elsewhere = carries_out pages how line machine left carries elsewhere
-
-pub elsewhere_keeps : (pages : PageMap) (how : Manner) (line : Line) (machine : Machine) (left : Left)
-    → TakesLine pages how line machine (Ok left)
-    → calls_outside left.answer ≡ true → left.machine ≡ machine
-elsewhere_keeps pages how line machine left takes elsewhere = takes_by pages (is_left_out line) how line machine left takes elsewhere
-
--- The machine after a call whose answer calls something outside memory.
-pub kept_elsewhere : (pages : PageMap) (origin : Origin) (line : Line) (old new : Machine) (result : Result LineOutcome FocalRefusal)
-    → TakesAs pages origin line old new result → OutsideCallKeeps old new result
-kept_elsewhere pages origin line old new (Ok outcome) takes =
-    λ elsewhere. elsewhere_keeps pages (manner_of origin) line old _ takes elsewhere
-kept_elsewhere pages origin line old new (Err refusal) takes = tt
+-- An XROM line calls the table entry of its numbers.
+pub called_module : (pages : PageMap) (origin : Origin) (number entry : ℕ) (old new : Machine) (outcome : LineOutcome)
+    → CallsEntry origin true (entry_at pages number entry) old new outcome
+    → CarriesAs pages origin (Module number entry) old new (Ok outcome)
+called_module pages origin number entry old new outcome called =
+    (Ok (record { machine = old; answer = Calls number entry }), refl, called)

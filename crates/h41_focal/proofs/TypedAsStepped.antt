@@ -1,5 +1,5 @@
 -- Lines that continue at the next one have the same effect whether they are stepped or typed.
-use Rattle.std.proofs.Common.{◌≡◌, ℕ, Bool, true, false, List, [], ◌∷◌, All, None, Option, Result, Ok, Err, refl, sym, ap, ◌∙◌, subst}
+use Rattle.std.proofs.Common.{◌≡◌, ℕ, Bool, true, false, List, [], ◌∷◌, All, Option, Result, Ok, Err, refl, sym, ap, ◌∙◌, subst}
 use Rattle.std.proofs.lemmas.List.Elements.{All-head, All-tail}
 use Rattle.std.specs.Prelude.{IfOk, MatchBool, if◌then◌else◌}
 use Rattle.h41_codes.specs.declared.line.Line.{Line}
@@ -145,7 +145,7 @@ taken_alike pages next line machine focal left goes_on takes =
 module _ (once : IsReadOnce) where
   stands_alike : (pages : PageMap) (standing : Result (Line × Position) FocalRefusal) (line : Line) (machine : Machine) (focal : FocalState)
       (left : Left)
-      → GoesToNext line → IsAt pages line machine → Stands pages machine standing → StepsAs pages None machine standing (Ok left)
+      → GoesToNext line → IsAt pages line machine → Stands pages machine standing → StepsAs pages machine standing (Ok left)
       → LeavesLike (TypesLine pages line (beside machine focal)) left
   stands_alike pages (Ok (own, next)) line machine focal left goes_on stands (sound, stands_so, behind) takes =
       let same = same_line once pages machine.memory machine.focal.position own line stands_so stands in
@@ -158,7 +158,7 @@ module _ (once : IsReadOnce) where
 
   line_alike : (pages : PageMap) (line : Line) (machine other : Machine) (left : Left) → GoesToNext line → AreAlike machine other
       → IsAt pages line machine
-      → StepsLine pages None machine (Ok left) → LeavesLike (TypesLine pages line other) left
+      → StepsLine pages machine (Ok left) → LeavesLike (TypesLine pages line other) left
   line_alike pages line machine other left goes_on alike stands steps =
       subst (λ (other : Machine). LeavesLike (TypesLine pages line other) left) (same_beside machine other alike)
       (stands_alike pages steps.0 line machine other.focal left goes_on stands steps.1 steps.2)

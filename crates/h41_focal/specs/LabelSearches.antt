@@ -1,12 +1,11 @@
 -- The search for a label that a line makes, and the label cache after it.
 use Rattle.std.specs.Prelude.{◌≡◌, List, MatchBool, None, Option, Some, if◌then◌else◌}
 use Rattle.std.specs.Prelude.{Result, Ok, Err}
-use Rattle.h41_codes.specs.declared.functions.Function.{Function}
 use Rattle.h41_codes.specs.declared.line.Line.{Line}
 use Rattle.h41_codes.specs.declared.line.Line.TheVariants as lines
 use Rattle.h41_positions.specs.LabelledMachine.{LabelledMachine, begun_labels, local_search}
 use Rattle.h41_positions.specs.LabelledMachine.{machine_of}
-use Rattle.h41_focal.specs.LineStep.{Stands, line_as}
+use Rattle.h41_focal.specs.LineStep.{Stands}
 use Rattle.h41_positions.specs.FocalState.{Machine}
 use Rattle.h41_focal.specs.declared.refusal.FocalRefusal.{FocalRefusal}
 use Rattle.h41_labels.specs.KeptAnswers.{KeepsSearch}
@@ -52,18 +51,19 @@ KeepsStepped line next machine before after =
     KeepsSearch machine.memory (search_of machine.memory next line) before after
 
 -- If no line can be read at the position, there is no search.
-abbrev pub KeepsPlaced : Option Function → Machine → Result (Line × Position) FocalRefusal
+abbrev pub KeepsPlaced : Machine → Result (Line × Position) FocalRefusal
     → (before after : List KeptAnswer) → Type 0
-KeepsPlaced function machine (Ok standing) before after =
-    KeepsStepped (line_as function standing.0) standing.1 machine before after
-KeepsPlaced function machine (Err refusal) before after = after ≡ before
+KeepsPlaced machine (Ok standing) before after =
+    KeepsStepped standing.0 standing.1 machine before after
+KeepsPlaced machine (Err refusal) before after = after ≡ before
 
--- The label cache after the line at the position, or after a function that replaces it.
-abbrev pub StepKeeps : PageMap → Option Function → (old new : LabelledMachine) → Type 0
-StepKeeps pages function old new =
+-- The label cache after the line at the position. What the line calls outside program memory makes
+-- no search.
+abbrev pub StepKeeps : PageMap → (old new : LabelledMachine) → Type 0
+StepKeeps pages old new =
     (standing : Result (Line × Position) FocalRefusal)
     × Stands pages (machine_of old) standing
-    × KeepsPlaced function (machine_of old) standing (begun_labels old) new.focal.labels
+    × KeepsPlaced (machine_of old) standing (begun_labels old) new.focal.labels
 
 -- The label cache after a typed line. If memory is not sound, there is no search.
 abbrev pub TypingKeeps : Line → (old new : LabelledMachine) → Type 0

@@ -5,4 +5,5 @@ pub mod LineLaws
 pub mod LineStep
 pub mod MachineCalls
 pub mod Outcomes
+pub mod OutsideCalls
 pub mod private

@@ -1,12 +1,13 @@
 -- Laws of lines, which hold for the definitions alone: each line has one outcome, and lines that
 -- continue at the next line have the same effect whether they are stepped or typed.
-use Rattle.std.specs.Prelude.{◌≡◌, ℕ, false, All, IfOk, List, [], ◌∷◌, None, Ok, Option, Result}
+use Rattle.std.specs.Prelude.{◌≡◌, ℕ, false, All, IfOk, List, [], ◌∷◌, Ok, Option, Result}
 use Rattle.h41_codes.specs.declared.functions.Function.{Function}
 use Rattle.h41_codes.specs.declared.line.Line.{Line}
 use Rattle.h41_codes.specs.declared.line.Line.TheVariants.{Module}
-use Rattle.h41_focal.specs.LineStep.{EntersLine, Left, PassesLine, SteppedLineFails, TypedLineFails}
+use Rattle.h41_focal.specs.LineStep.{Left}
 use Rattle.h41_positions.specs.FocalState.{Machine}
 use Rattle.h41_focal.specs.LineStep.{StepsLine, TypesLine}
+use Rattle.h41_focal.specs.OutsideCalls.{CarriesLine, IsNamed, LineSource}
 use Rattle.h41_focal.specs.Outcomes.{calls_outside}
 use Rattle.h41_focal.specs.declared.refusal.FocalRefusal.{FocalRefusal}
 use Rattle.h41_pages.specs.PageMap.{PageMap}
@@ -16,48 +17,32 @@ use Rattle.h41_ram.specs.RegisterMap.{RegisterMap}
 use Rattle.h41_rows.specs.LineRows.{row_of}
 use Rattle.h41_rows.specs.Operands.{meant_of}
 use Rattle.h41_rows.specs.Rows.{Next}
-use Rattle.h41_rows.specs.declared.fault.LineFault.{LineFault}
 
--- A stepped line has one outcome.
+-- A stepped line has one outcome by itself.
 abbrev pub StepIsDetermined : Type 0
 StepIsDetermined =
-    (pages : PageMap) (function : Option Function) (machine : Machine)
-    (carried other : Result Left FocalRefusal)
-    → StepsLine pages function machine carried → StepsLine pages function machine other
-    → carried ≡ other
+    (pages : PageMap) (machine : Machine) (carried other : Result Left FocalRefusal)
+    → StepsLine pages machine carried → StepsLine pages machine other → carried ≡ other
 
--- A typed line has one outcome.
+-- A typed line has one outcome by itself.
 abbrev pub TypedIsDetermined : Type 0
 TypedIsDetermined =
     (pages : PageMap) (line : Line) (machine : Machine) (carried other : Result Left FocalRefusal)
     → TypesLine pages line machine carried → TypesLine pages line machine other → carried ≡ other
 
--- A stepped line that fails has one outcome.
-abbrev pub FailureIsDetermined : Type 0
-FailureIsDetermined =
-    (pages : PageMap) (fault : LineFault) (machine : Machine)
+-- A line has one outcome, with all that it calls.
+abbrev pub LineIsDetermined : Type 0
+LineIsDetermined =
+    (source : LineSource) (pages : PageMap) (machine : Machine)
     (carried other : Result Left FocalRefusal)
-    → SteppedLineFails pages fault machine carried → SteppedLineFails pages fault machine other
+    → CarriesLine source pages machine carried → CarriesLine source pages machine other
     → carried ≡ other
 
--- A typed line that fails has one outcome.
-abbrev pub TypedFailureIsDetermined : Type 0
-TypedFailureIsDetermined =
-    (fault : LineFault) (machine : Machine) (carried other : Result Left FocalRefusal)
-    → TypedLineFails fault machine carried → TypedLineFails fault machine other → carried ≡ other
-
--- A line whose function is executed elsewhere has one outcome.
-abbrev pub PassingIsDetermined : Type 0
-PassingIsDetermined =
-    (pages : PageMap) (machine : Machine) (after other : Result Machine FocalRefusal)
-    → PassesLine pages machine after → PassesLine pages machine other → after ≡ other
-
--- A line that calls a program of a page has one outcome.
-abbrev pub EnteringIsDetermined : Type 0
-EnteringIsDetermined =
-    (pages : PageMap) (address : ℕ) (machine : Machine) (after other : Result Machine FocalRefusal)
-    → EntersLine pages address machine after → EntersLine pages address machine other
-    → after ≡ other
+-- Any characters name at most one function of the calculator.
+abbrev pub NameIsDetermined : Type 0
+NameIsDetermined =
+    (name : List ℕ) (function other : Option Function)
+    → IsNamed name function → IsNamed name other → function ≡ other
 
 -- A line whose row continues at the next line, for each meaning of its operand. Tests, loops, GTO,
 -- XEQ, RTN and END do not. PROMPT, STOP and OFF do, because only memory and stack lift matter here.
@@ -82,7 +67,7 @@ StepsInTurn pages [] machine left = left ≡ machine
 StepsInTurn pages (line ∷ lines) machine left =
     IsAt pages line machine
     × (after : Left)
-    × StepsLine pages None machine (Ok after)
+    × StepsLine pages machine (Ok after)
     × StepsInTurn pages lines after.machine left
 
 -- Lines are typed one after another.
@@ -120,5 +105,5 @@ abbrev pub NextIsHere : Type 0
 NextIsHere =
     (pages : PageMap) (line : Line) (machine : Machine) (left : Left)
     → GoesToNext line → IsAt pages line machine
-    → StepsLine pages None machine (Ok left)
+    → StepsLine pages machine (Ok left)
     → calls_outside left.answer ≡ false

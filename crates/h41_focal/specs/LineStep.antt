@@ -1,14 +1,12 @@
 -- The execution of one line, with one rule for all rows. Flag 25 and the effect of errors are the
 -- Owner's Handbook's rules. The refusals and their order, line 00, and the effect of an error of a
 -- typed line are this project's choices.
-use Rattle.std.specs.Prelude.{◌≡◌, ℕ, Bool, true, false, IsTrue, List, [], MatchBool, Option}
+use Rattle.std.specs.Prelude.{◌≡◌, ℕ, false, IsTrue, List, [], MatchBool, Option}
 use Rattle.std.specs.Prelude.{if◌then◌else◌, Some, None, Result, Ok, Err}
-use Rattle.h41_codes.specs.declared.functions.Function.{Function}
 use Rattle.h41_codes.specs.declared.line.Line.{Line}
-use Rattle.h41_codes.specs.declared.line.Line.TheVariants.{Module, Plain}
+use Rattle.h41_codes.specs.declared.line.Line.TheVariants.{Module}
 use Rattle.h41_focal.specs.Destinations.{Destination, Arrives, Halts, Stays, Tells, Runs, Seeks}
 use Rattle.h41_focal.specs.Destinations.{HasNoLabel, HasNoLine, Goes, Manner, Stepped, Typed}
-use Rattle.h41_focal.specs.Destinations.{with_return}
 use Rattle.h41_rows.specs.LineRows.{row_of}
 use Rattle.h41_rows.specs.Operands.{Meant, Address, meant_of}
 use Rattle.h41_focal.specs.Outcomes.{Answer}
@@ -28,7 +26,6 @@ use Rattle.h41_positions.specs.FocalState.{Machine, at_halt, at_line, with_retur
 use Rattle.h41_positions.specs.Positions.{LineAt, NextAt}
 use Rattle.h41_positions.specs.declared.position.PlacedLine.{PlacedLine}
 use Rattle.h41_positions.specs.declared.position.Position.{Position}
-use Rattle.h41_positions.specs.declared.position.Position.TheVariants.{Page}
 use Rattle.h41_program.specs.declared.refusal.ProgramRefusal.{ProgramRefusal}
 use Rattle.h41_ram.specs.NamedFlags.{error_ignore}
 use Rattle.h41_ram.specs.RegisterMap.{RegisterMap, flag_of, is_sound, register_at, with_flag, zeros}
@@ -184,11 +181,6 @@ TypesLine pages line machine carried =
     MatchBool (is_sound machine.memory)
     (TakesLine pages Typed line machine carried) (carried ≡ Err MemoryLost)
 
--- The line at the position, or the function that replaces it because XEQ names it.
-abbrev pub line_as : Option Function → Line → Line
-line_as None line = line
-line_as (Some function) line = Plain function
-
 -- The line at a position and the position of the next line, or a refusal: MemoryLost (15) if memory
 -- is not sound, BrokenProgram (14) if no line can be read there.
 abbrev pub StandsAt : PageMap → RegisterMap → Position → Result (Line × Position) FocalRefusal
@@ -206,90 +198,19 @@ StandsAt pages memory at (Err refusal) =
 abbrev pub Stands : PageMap → Machine → Result (Line × Position) FocalRefusal → Type 0
 Stands pages machine standing = StandsAt pages machine.memory machine.focal.position standing
 
--- A line, or a function that replaces it, is executed or refused.
-abbrev pub StepsAs : PageMap → Option Function → Machine → Result (Line × Position) FocalRefusal
+-- The line that stands at the position is executed, or refused.
+abbrev pub StepsAs : PageMap → Machine → Result (Line × Position) FocalRefusal
     → Result Left FocalRefusal → Type 0
-StepsAs pages function machine (Ok standing) carried =
-    TakesLine pages (Stepped standing.1) (line_as function standing.0) machine carried
-StepsAs pages function machine (Err refusal) carried = carried ≡ Err refusal
+StepsAs pages machine (Ok standing) carried =
+    TakesLine pages (Stepped standing.1) standing.0 machine carried
+StepsAs pages machine (Err refusal) carried = carried ≡ Err refusal
 
--- The line at the position is executed, or a function that replaces it.
-abbrev pub StepsLine : PageMap → Option Function → Machine → Result Left FocalRefusal → Type 0
-StepsLine pages function machine carried =
+-- The line at the position is executed.
+abbrev pub StepsLine : PageMap → Machine → Result Left FocalRefusal → Type 0
+StepsLine pages machine carried =
     (standing : Result (Line × Position) FocalRefusal)
     × Stands pages machine standing
-    × StepsAs pages function machine standing carried
-
--- A line fails, for example because nothing has the name that it calls.
-abbrev pub FailsIfRead : LineFault → Machine → Result (Line × Position) FocalRefusal
-    → Result Left FocalRefusal → Type 0
-FailsIfRead fault machine (Ok standing) carried =
-    EndsInError (Stepped standing.1) machine fault carried
-FailsIfRead fault machine (Err refusal) carried = carried ≡ Err refusal
-
--- The line at the position fails.
-abbrev pub SteppedLineFails : PageMap → LineFault → Machine → Result Left FocalRefusal → Type 0
-SteppedLineFails pages fault machine carried =
-    (standing : Result (Line × Position) FocalRefusal)
-    × Stands pages machine standing
-    × FailsIfRead fault machine standing carried
-
--- A typed line fails, for example because nothing has the name that it calls. It is refused as
--- MemoryLost (15) if memory is not sound.
-abbrev pub TypedLineFails : LineFault → Machine → Result Left FocalRefusal → Type 0
-TypedLineFails fault machine carried =
-    MatchBool (is_sound machine.memory)
-    (EndsInError Typed machine fault carried) (carried ≡ Err MemoryLost)
-
--- Stack lift after a line whose function is executed elsewhere: an XROM line turns it on, XEQ with
--- a name leaves it unchanged (this project's choice).
-abbrev pub stack_lift_after : Line → Bool → Bool
-stack_lift_after (Module number entry) lift = true
-stack_lift_after line lift = lift
-
--- Execution continues after such a line.
-abbrev pub with_line_passed : Line → Position → Machine → Machine
-with_line_passed line next machine =
-    at_line next
-    (record machine {
-      focal = record machine.focal { lift = stack_lift_after line machine.focal.lift };
-    })
-
--- Execution continues after such a line, or it is refused.
-abbrev pub PassesWith : Machine → Result (Line × Position) FocalRefusal
-    → Result Machine FocalRefusal → Type 0
-PassesWith machine (Ok standing) after =
-    after ≡ Ok (with_line_passed standing.0 standing.1 machine)
-PassesWith machine (Err refusal) after = after ≡ Err refusal
-
--- The line at the position calls a function that the calculator executes elsewhere: the program
--- continues after the line.
-abbrev pub PassesLine : PageMap → Machine → Result Machine FocalRefusal → Type 0
-PassesLine pages machine after =
-    (standing : Result (Line × Position) FocalRefusal)
-    × Stands pages machine standing
-    × PassesWith machine standing after
-
--- A line calls a program of a page, which is a function of a module: the program continues there,
--- and returns to the next line. Stack lift is as after other functions of modules.
-abbrev pub with_program_called : Line → (next start : Position) → Machine → Machine
-with_program_called line next start machine =
-    at_line start
-    (with_returns (with_return machine.focal.returns next) (with_line_passed line next machine))
-
--- A line calls the program at an address of a page, or is refused.
-abbrev pub EntersWith : ℕ → Machine → Result (Line × Position) FocalRefusal
-    → Result Machine FocalRefusal → Type 0
-EntersWith address machine (Ok standing) after =
-    after ≡ Ok (with_program_called standing.0 standing.1 (Page address) machine)
-EntersWith address machine (Err refusal) after = after ≡ Err refusal
-
--- The line at the position calls the program at an address of a page.
-abbrev pub EntersLine : PageMap → ℕ → Machine → Result Machine FocalRefusal → Type 0
-EntersLine pages address machine after =
-    (standing : Result (Line × Position) FocalRefusal)
-    × Stands pages machine standing
-    × EntersWith address machine standing after
+    × StepsAs pages machine standing carried
 
 -- A typed line calls a program, which runs from a position on, without return addresses.
 abbrev pub with_program_run : Position → Machine → Machine

@@ -1,5 +1,5 @@
--- The outcome of a line as contracts describe it: texts are their bytes, which are made from memory
--- as the line left it.
+-- The answer of a line, and the outcome of a line as contracts describe it: texts are their bytes,
+-- which are made from memory as the line left it.
 use Rattle.std.specs.Prelude.{ℕ, Bool, true, false, List}
 use Rattle.h41_focal.specs.declared.outcome.LineOutcome.{LineOutcome}
 use Rattle.h41_focal.specs.declared.outcome.LineOutcome.TheVariants as outcomes
@@ -8,7 +8,8 @@ use Rattle.h41_rows.specs.declared.fault.LineFault.{LineFault}
 use Rattle.h41_show.specs.DisplayFormat.{format_of}
 use Rattle.h41_show.specs.RegisterText.{alpha_text, register_text}
 
--- The answer of a line, on which the calculator acts.
+-- The answer of a line. The answers Calls and Seeks are those of a line by itself: what it calls is
+-- executed then, and gives the answer on which the calculator acts.
 pub data Answer : Type 0 where
   -- the program continues
   Done : Answer
@@ -30,10 +31,12 @@ pub data Answer : Type 0 where
   Calls : ℕ → ℕ → Answer
   -- a function with this name is called, which is not in memory
   Seeks : List ℕ → Answer
+  -- a function of a module in microcode starts at this address
+  Begins : ℕ → Answer
   -- the line has an error: the display shows it, and the program stops
   Failed : LineFault → Answer
 
--- The calculator has to search for a function of a module or for a name.
+-- What the line calls is outside program memory: a function of a module, or what has a name.
 abbrev pub calls_outside : Answer → Bool
 calls_outside (Calls number entry) = true
 calls_outside (Seeks name) = true
@@ -51,6 +54,5 @@ answer_of memory outcomes.Prompted = Prompted (alpha_text memory)
 answer_of memory outcomes.Cleared = Cleared
 answer_of memory (outcomes.Answered holds) = Answered holds
 answer_of memory outcomes.Runs = Runs
-answer_of memory (outcomes.Calls number entry) = Calls number entry
-answer_of memory (outcomes.Seeks name) = Seeks name
+answer_of memory (outcomes.Begins address) = Begins address
 answer_of memory (outcomes.Failed fault) = Failed fault

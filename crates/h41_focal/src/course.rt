@@ -2,7 +2,7 @@
 
 ghost use Rattle.std.specs.Prelude.{◌≡◌};
 ghost use Rattle.h41_positions.specs.LabelledMachine.{Keeps, machine_of};
-ghost use Rattle.h41_focal.specs.private.Carrying.{LineFails, state_after_line, fault_outcome};
+ghost use Rattle.h41_focal.specs.private.Carrying.{LineFails, fault_outcome};
 ghost use Rattle.h41_focal.specs.private.Carrying.{on_to_next};
 ghost use Rattle.h41_rows.specs.declared.fault.LineFault.{LineFault};
 ghost use Rattle.h41_rows.specs.Rows.{AsItWas, On};
@@ -11,8 +11,7 @@ ghost use Rattle.h41_rows.specs.RowMarks.{LeavesMark};
 use crate::machine::Machine;
 use crate::origin::Origin;
 use crate::outcome::LineOutcome;
-use h41_codes::Line;
-use h41_positions::{Focal, Position};
+use h41_positions::Focal;
 use h41_ram::flags::ERROR_IGNORE;
 use h41_rows::LineFault;
 
@@ -37,18 +36,6 @@ pub fn go_on_lifting(focal: &mut Focal, origin: Origin)
 {
     go_on(focal, origin);
     focal.lift = true;
-}
-
-/// Moves the position to the line at `next`, after a line that calls a function outside program memory. An XROM line
-/// turns stack lift on; other lines leave it unchanged.
-pub fn pass_line(focal: &mut Focal, line: &Line, next: Position)
-    ensures state { focal.new.state ≡ state_after_line line.now next focal.old.state }
-    ensures labels { focal.new.labels ≡ focal.old.labels }
-{
-    match line {
-        Line::Module(_, _) => go_on_lifting(focal, Origin::Program(next)),
-        _ => go_on(focal, Origin::Program(next)),
-    }
 }
 
 /// Handles an error of a program line or a typed line, and returns the line's outcome. If flag 25 is set, the flag is

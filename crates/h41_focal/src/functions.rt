@@ -1,7 +1,6 @@
 //! Executing functions without an operand, for example `+` or `CLX`.
 
 ghost use Rattle.std.specs.Prelude.{◌≡◌, OnErr, IsTrue};
-ghost use Rattle.h41_focal.specs.MachineCalls.{outcome_by};
 ghost use Rattle.h41_positions.specs.LabelledMachine.{Keeps, machine_of};
 ghost use Rattle.h41_focal.specs.private.Carrying.{TakesAs};
 ghost use Rattle.h41_codes.specs.declared.line.Line.TheVariants.{Plain};
@@ -15,7 +14,7 @@ use crate::labels::go_back;
 use crate::machine::Machine;
 use crate::mode_lines::set_angle_unit;
 use crate::origin::Origin;
-use crate::outcome::{LineOutcome, is_done};
+use crate::outcome::LineOutcome;
 use crate::questions::ask;
 use crate::refusal::FocalRefusal;
 use crate::stack_lines::{clear_registers, do_nothing, move_stack};
@@ -62,34 +61,26 @@ pub fn plain<const REGS: usize>(
     }
 }
 
-/// Executes a function without an operand, as `plain` does, and returns whether its outcome is `Done`. If not, `outcome`
-/// receives the outcome, or the error: NotInProfile (13) or BrokenProgram (14). The functions that are
-/// most frequent in programs are executed here, all others by `plain`.
+/// Executes a function without an operand, as `plain` does. The functions that are most frequent in programs are
+/// executed here, all others by `plain`.
 #[inline(always)]
 pub fn plain_at_once<const REGS: usize>(
     machine: &mut Machine<REGS>,
     pages: &Pages,
     origin: Origin,
     function: Function,
-    outcome: &mut Result<LineOutcome, FocalRefusal>,
-) -> bool
+) -> Result<LineOutcome, FocalRefusal>
     requires { IsTrue (is_sound machine.old.ram.registers) }
-    ensures taken { TakesAs pages.now origin (Plain function)
-        (machine_of machine.old) (machine_of machine.new) (outcome_by result outcome.new) }
-    ensures unchanged { OnErr (outcome_by result outcome.new) (machine.new ≡ machine.old) }
+    ensures taken { TakesAs pages.now origin (Plain function) (machine_of machine.old)
+        (machine_of machine.new) result }
+    ensures unchanged { OnErr result (machine.new ≡ machine.old) }
     ensures keeps { Keeps machine.old machine.new }
     ensures left { LeavesMark machine.old.ram machine.new.ram }
 {
     match work_of(function) {
-        Some(FunctionWork::OfYAndX(value)) => is_done(
-            Ok(of_y_and_x(machine, origin, value)),
-            outcome,
-        ),
-        Some(FunctionWork::OfX(value)) => is_done(Ok(of_x(machine, origin, value)), outcome),
-        Some(FunctionWork::Move(movement)) => is_done(
-            Ok(move_stack(machine, origin, movement)),
-            outcome,
-        ),
-        _ => is_done(plain(machine, pages, origin, function), outcome),
+        Some(FunctionWork::OfYAndX(value)) => Ok(of_y_and_x(machine, origin, value)),
+        Some(FunctionWork::OfX(value)) => Ok(of_x(machine, origin, value)),
+        Some(FunctionWork::Move(movement)) => Ok(move_stack(machine, origin, movement)),
+        _ => plain(machine, pages, origin, function),
     }
 }

@@ -1,6 +1,6 @@
 //! Branches to labels, calls of programs, and returns.
 
-ghost use Rattle.std.specs.Prelude.{◌≡◌, ℕ, IsTrue, Some};
+ghost use Rattle.std.specs.Prelude.{◌≡◌, ℕ, IsTrue, OnErr, Some};
 ghost use Rattle.h41_positions.specs.LabelledMachine.{local_search};
 ghost use Rattle.h41_positions.specs.LabelledMachine.{Keeps, machine_of};
 ghost use Rattle.h41_focal.specs.private.Arrivals.{ReturnsFrom, answer_at, focal_at};
@@ -8,15 +8,16 @@ ghost use Rattle.h41_focal.specs.private.Carrying.{GoesBack, GoesToLabel, GoesTo
 ghost use Rattle.h41_focal.specs.private.Searching.{AsksFrom};
 ghost use Rattle.h41_labels.specs.KeptAnswers.{IsRight};
 ghost use Rattle.h41_labels.specs.declared.search.Search.TheVariants.{Global};
-ghost use Rattle.h41_pages.specs.PageMap.{PageMap};
 ghost use Rattle.h41_ram.specs.RamState.{KeepsMark};
 ghost use Rattle.h41_ram.specs.RegisterMap.{is_sound};
 ghost use Rattle.h41_rows.specs.RowMarks.{LeavesMark};
 
+use crate::calls::call_named;
 use crate::course::fail;
 use crate::machine::Machine;
 use crate::origin::Origin;
 use crate::outcome::LineOutcome;
+use crate::refusal::FocalRefusal;
 use arrayvec::ArrayVec;
 use h41_codes::{Branch, Parameter, Text};
 use h41_pages::Pages;
@@ -54,18 +55,21 @@ pub fn to_label<const REGS: usize>(
 }
 
 /// Executes `GTO` or `XEQ` with a name: moves to the last global label in memory with this name. If there is none,
-/// `GTO` fails with NONEXISTENT (the outcome is `Failed`, or `Done` if flag 25 was set), and the outcome of `XEQ` is
-/// `Seeks`: the caller searches for the name outside memory.
+/// `GTO` fails with NONEXISTENT (the outcome is `Failed`, or `Done` if flag 25 was set), and `XEQ` calls what has this
+/// name outside memory. NotInProfile (13) if that is a function that the bench does not support, BrokenProgram (14) if
+/// the line that the function skips cannot be read. After these errors nothing has changed.
 pub fn to_name<const REGS: usize>(
     machine: &mut Machine<REGS>,
+    pages: &Pages,
     origin: Origin,
     branch: Branch,
     name: Text<15>,
-) -> LineOutcome
+) -> Result<LineOutcome, FocalRefusal>
     requires sound { IsTrue (is_sound machine.old.ram.registers) }
     requires right { IsRight machine.old.focal.labels machine.old.ram.registers }
-    ensures done { (pages : PageMap) → GoesToName pages origin branch name (machine_of machine.old)
+    ensures done { GoesToName pages.now origin branch name (machine_of machine.old)
         (machine_of machine.new) result }
+    ensures unchanged { OnErr result (machine_of machine.new ≡ machine_of machine.old) }
     ensures kept { AsksFrom origin (λ from. Some (Global name)) machine.old machine.new }
     ensures mark { KeepsMark machine.old.ram machine.new.ram }
     ensures left { LeavesMark machine.old.ram machine.new.ram }
@@ -73,10 +77,10 @@ pub fn to_name<const REGS: usize>(
     match (machine.focal.global(&machine.ram, name), branch) {
         (Some(byte), _) => {
             let label = Position::Memory(byte);
-            arrive(&mut machine.focal, origin, branch, label)
+            Ok(arrive(&mut machine.focal, origin, branch, label))
         }
-        (None, Branch::GoTo) => fail(machine, origin, LineFault::Nonexistent),
-        (None, Branch::Execute) => LineOutcome::Seeks(name),
+        (None, Branch::GoTo) => Ok(fail(machine, origin, LineFault::Nonexistent)),
+        (None, Branch::Execute) => call_named(machine, pages, origin, name.characters()),
     }
 }
 

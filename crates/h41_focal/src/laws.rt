@@ -3,16 +3,16 @@
 
 ghost use Rattle.std.specs.Prelude.{◌≡◌, ◌≤◌, length};
 ghost use Rattle.h41_focal.specs.LabelLaws.{KeepingStaysRight, SearchingStaysRight};
-ghost use Rattle.h41_focal.specs.LineLaws.{EnteringIsDetermined, FailureIsDetermined, NextIsHere};
-ghost use Rattle.h41_focal.specs.LineLaws.{PassingIsDetermined};
+ghost use Rattle.h41_focal.specs.LineLaws.{LineIsDetermined, NameIsDetermined, NextIsHere};
 ghost use Rattle.h41_focal.specs.LineLaws.{StepIsDetermined, SteppedCanBeTyped, TypedAsStepped};
-ghost use Rattle.h41_focal.specs.LineLaws.{TypedFailureIsDetermined, TypedIsDetermined};
+ghost use Rattle.h41_focal.specs.LineLaws.{TypedIsDetermined};
 
 use h41_labels::laws::{answers_stay_right, kept_answers_depend_on_the_program};
 use h41_positions::Focal;
 use h41_positions::laws::positions_are_read;
 use h41_program::laws::searches_are_determined;
 use h41_rows::laws::values_are_determined;
+use h41_text::laws::line_text_round_trip;
 
 /// Returns the number of return addresses in the state of programs, which is at most six.
 pub fn six_returns_at_most(focal: &Focal) -> usize
@@ -22,20 +22,18 @@ pub fn six_returns_at_most(focal: &Focal) -> usize
     focal.returns.len()
 }
 
-/// States that executing a program line has one outcome: if it is stepped or typed, if it fails because what it calls
-/// does not exist, if it is skipped because its function was executed elsewhere, or if it calls a program in a plug-in
-/// page.
+/// States that executing a program line or a typed line has one outcome, by itself and with all that it calls, and that a
+/// name names at most one function of the calculator.
 pub fn line_is_determined()
     ensures step { StepIsDetermined }
     ensures typed { TypedIsDetermined }
-    ensures failure { FailureIsDetermined }
-    ensures typed_failure { TypedFailureIsDetermined }
-    ensures passing { PassingIsDetermined }
-    ensures entering { EnteringIsDetermined }
+    ensures line { LineIsDetermined }
+    ensures name { NameIsDetermined }
 {
     values_are_determined();
     positions_are_read();
     searches_are_determined();
+    line_text_round_trip();
 }
 
 /// States that lines which continue at the next line leave the same memory and the same stack lift, whether they are

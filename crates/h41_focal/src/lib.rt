@@ -4,6 +4,7 @@
 mod addresses;
 mod alpha_lines;
 mod arithmetic;
+mod calls;
 mod course;
 mod display_lines;
 mod flag_lines;
@@ -26,6 +27,7 @@ mod stack_lines;
 mod uses;
 mod works;
 
+pub use calls::function_named;
 pub use h41_positions::{Focal, RETURNS};
 pub use h41_rows::LineFault;
 pub use machine::Machine;

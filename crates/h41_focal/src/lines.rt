@@ -6,7 +6,7 @@ ghost use Rattle.h41_focal.specs.LabelSearches.{search_for};
 ghost use Rattle.h41_positions.specs.LabelledMachine.{Keeps, machine_of};
 ghost use Rattle.h41_focal.specs.LineStep.{Stands};
 ghost use Rattle.h41_focal.specs.private.Carrying.{GoesToTarget};
-ghost use Rattle.h41_focal.specs.private.Carrying.{TakesAs};
+ghost use Rattle.h41_focal.specs.private.Carrying.{CarriesAs};
 ghost use Rattle.h41_focal.specs.private.Carrying.{TakesBranch, TakesNamed, TakesShort};
 ghost use Rattle.h41_focal.specs.private.Searching.{AsksFrom, AsksOf};
 ghost use Rattle.h41_labels.specs.KeptAnswers.{IsRight};
@@ -17,6 +17,7 @@ ghost use Rattle.h41_ram.specs.RegisterMap.{is_sound};
 ghost use Rattle.h41_rows.specs.RowMarks.{LeavesMark};
 
 use crate::alpha_lines::text_line;
+use crate::calls::call_module;
 use crate::course::fail;
 use crate::functions::plain;
 use crate::labels::{go_back, to_label, to_name};
@@ -52,7 +53,7 @@ pub fn standing<const REGS: usize>(
     }
 }
 
-/// Executes a program line or a typed line, and returns its outcome. NotInProfile (13) if the bench does not support
+/// Executes a program line or a typed line with all that it calls, and returns its outcome. NotInProfile (13) if the bench does not support
 /// the line; BrokenProgram (14) if the line that a test or loop skips cannot be read. After these errors nothing has
 /// changed.
 #[inline(never)]
@@ -64,9 +65,9 @@ pub fn carry_out<const REGS: usize>(
 ) -> Result<LineOutcome, FocalRefusal>
     requires sound { IsTrue (is_sound machine.old.ram.registers) }
     requires right { IsRight machine.old.focal.labels machine.old.ram.registers }
-    ensures taken { TakesAs pages.now origin line.now (machine_of machine.old)
+    ensures taken { CarriesAs pages.now origin line.now (machine_of machine.old)
         (machine_of machine.new) result }
-    ensures unchanged { OnErr result (machine.new ≡ machine.old) }
+    ensures unchanged { OnErr result (machine_of machine.new ≡ machine_of machine.old) }
     ensures kept { AsksOf origin line.now machine.old machine.new }
     ensures mark { KeepsMark machine.old.ram machine.new.ram }
     ensures left { LeavesMark machine.old.ram machine.new.ram }
@@ -76,13 +77,13 @@ pub fn carry_out<const REGS: usize>(
         Line::LocalLabel(_) => Ok(be_silent(machine, origin)),
         Line::GlobalLabel(_, _, _) => Ok(be_silent(machine, origin)),
         Line::Number(number) => Ok(number_line(machine, origin, written(number))),
-        Line::Named(function, name) => named(machine, origin, *function, *name),
+        Line::Named(function, name) => named(machine, pages, origin, *function, *name),
         Line::Register(function, register) => short(machine, origin, *function, *register),
         Line::Plain(function) => plain(machine, pages, origin, *function),
         Line::WithOperand(function, operand) => with_operand(
             machine, pages, origin, *function, operand,
         ),
-        Line::Module(number, entry) => Ok(LineOutcome::Calls(*number, *entry)),
+        Line::Module(number, entry) => Ok(call_module(machine, pages, origin, *number, *entry)),
         Line::BranchIndirect(branch, register) => indirect(
             machine, pages, origin, *branch, *register,
         ),
@@ -104,26 +105,28 @@ pub fn carry_out<const REGS: usize>(
     }
 }
 
-/// Executes `GTO` or `XEQ` with the name of a global label. NotInProfile (13) for `W`, the line with a name whose code
-/// has no function; nothing changes then.
+/// Executes `GTO` or `XEQ` with a name. NotInProfile (13) for `W`, the line with a name whose code has no function, and
+/// for a function of the calculator that the bench does not support; BrokenProgram (14) if the line that the function
+/// skips cannot be read. After these errors nothing has changed.
 fn named<const REGS: usize>(
     machine: &mut Machine<REGS>,
+    pages: &Pages,
     origin: Origin,
     function: NameFunction,
     name: Text<15>,
 ) -> Result<LineOutcome, FocalRefusal>
     requires sound { IsTrue (is_sound machine.old.ram.registers) }
     requires right { IsRight machine.old.focal.labels machine.old.ram.registers }
-    ensures taken { (pages : PageMap) → TakesNamed pages origin function name
-        (machine_of machine.old) (machine_of machine.new) result }
-    ensures unchanged { OnErr result (machine.new ≡ machine.old) }
+    ensures taken { TakesNamed pages.now origin function name (machine_of machine.old)
+        (machine_of machine.new) result }
+    ensures unchanged { OnErr result (machine_of machine.new ≡ machine_of machine.old) }
     ensures kept { AsksOf origin (Named function name) machine.old machine.new }
     ensures mark { KeepsMark machine.old.ram machine.new.ram }
     ensures left { LeavesMark machine.old.ram machine.new.ram }
 {
     match function {
-        NameFunction::GoToName => Ok(to_name(machine, origin, Branch::GoTo, name)),
-        NameFunction::ExecuteName => Ok(to_name(machine, origin, Branch::Execute, name)),
+        NameFunction::GoToName => to_name(machine, pages, origin, Branch::GoTo, name),
+        NameFunction::ExecuteName => to_name(machine, pages, origin, Branch::Execute, name),
         NameFunction::Wordless => Err(FocalRefusal::NotInProfile),
     }
 }
@@ -155,7 +158,8 @@ pub fn short<const REGS: usize>(
 
 /// Executes `GTO IND` or `XEQ IND` with a register, which contains the number or the name of the label. The errors are
 /// NONEXISTENT and ALPHA DATA; then the outcome is `Failed`, or `Done` if flag 25 was set. NotInProfile (13) if the
-/// bench does not support the register; nothing changes then.
+/// bench does not support the register, or the function that the register names; BrokenProgram (14) if the line that
+/// the function skips cannot be read. After these errors nothing has changed.
 pub fn indirect<const REGS: usize>(
     machine: &mut Machine<REGS>,
     pages: &Pages,
@@ -167,7 +171,7 @@ pub fn indirect<const REGS: usize>(
     requires right { IsRight machine.old.focal.labels machine.old.ram.registers }
     ensures taken { TakesBranch pages.now origin branch register (machine_of machine.old)
         (machine_of machine.new) result }
-    ensures unchanged { OnErr result (machine.new ≡ machine.old) }
+    ensures unchanged { OnErr result (machine_of machine.new ≡ machine_of machine.old) }
     ensures kept { AsksOf origin (BranchIndirect branch register) machine.old machine.new }
     ensures mark { KeepsMark machine.old.ram machine.new.ram }
     ensures left { LeavesMark machine.old.ram machine.new.ram }
@@ -176,7 +180,7 @@ pub fn indirect<const REGS: usize>(
         return Err(FocalRefusal::NotInProfile);
     }
     match branch_target(&machine.ram, branch, register) {
-        Ok(target) => Ok(to_target(machine, pages, origin, branch, target)),
+        Ok(target) => to_target(machine, pages, origin, branch, target),
         Err(fault) => Ok(fail(machine, origin, fault)),
     }
 }
@@ -189,18 +193,19 @@ fn to_target<const REGS: usize>(
     origin: Origin,
     branch: Branch,
     target: BranchTarget,
-) -> LineOutcome
+) -> Result<LineOutcome, FocalRefusal>
     requires sound { IsTrue (is_sound machine.old.ram.registers) }
     requires right { IsRight machine.old.focal.labels machine.old.ram.registers }
     ensures done { GoesToTarget pages.now origin branch target (machine_of machine.old)
         (machine_of machine.new) result }
+    ensures unchanged { OnErr result (machine_of machine.new ≡ machine_of machine.old) }
     ensures kept { AsksFrom origin (λ from. search_for from (Ok (meant_by target)))
         machine.old machine.new }
     ensures mark { KeepsMark machine.old.ram machine.new.ram }
     ensures left { LeavesMark machine.old.ram machine.new.ram }
 {
     match target {
-        BranchTarget::Label(label) => to_label(machine, pages, origin, branch, label),
-        BranchTarget::Name(name) => to_name(machine, origin, branch, name),
+        BranchTarget::Label(label) => Ok(to_label(machine, pages, origin, branch, label)),
+        BranchTarget::Name(name) => to_name(machine, pages, origin, branch, name),
     }
 }

@@ -1,14 +1,9 @@
-//! The outcome of an executed line: what the calculator shows, calls or does next.
+//! The outcome of an executed line: what the calculator shows, starts or does next.
 
-ghost use Rattle.std.specs.Prelude.{◌≡◌};
-ghost use Rattle.h41_focal.specs.MachineCalls.{outcome_by};
-
-use crate::refusal::FocalRefusal;
-use h41_codes::{EntryNumber, ModuleNumber, Text};
 use h41_rows::LineFault;
 
-/// The outcome of an executed line: what the calculator shows, calls or does next. A text that the display shows is made
-/// from memory as the line left it.
+/// The outcome of an executed line: what the calculator shows, starts or does next. A text that the display shows is
+/// made from memory as the line left it.
 #[derive(Clone, Copy)]
 pub enum LineOutcome {
     /// The line was executed, and a program continues.
@@ -29,28 +24,9 @@ pub enum LineOutcome {
     Answered(bool),
     /// A typed `XEQ` moved the position to a program: the program runs.
     Runs,
-    /// A line calls the function of a module with this XROM number and entry number. Nothing was changed.
-    Calls(ModuleNumber, EntryNumber),
-    /// A line calls what has this name, which is not a label in memory. Nothing was changed.
-    Seeks(Text<15>),
+    /// The function of a module in microcode starts whose first word is at this address. A program continues after the
+    /// line.
+    Begins(u16),
     /// The line has an error: the display shows it, and the program stops.
     Failed(LineFault),
-}
-
-/// Returns whether the result of an executed line is the outcome `Done`. If not, `outcome` receives the result: another
-/// outcome or an error.
-#[inline(always)]
-pub fn is_done(
-    end: Result<LineOutcome, FocalRefusal>,
-    outcome: &mut Result<LineOutcome, FocalRefusal>,
-) -> bool
-    ensures { outcome_by result outcome.new ≡ end }
-{
-    match end {
-        Ok(LineOutcome::Done) => true,
-        _ => {
-            *outcome = end;
-            false
-        }
-    }
 }

@@ -2,11 +2,10 @@
 
 ghost use Rattle.std.specs.Prelude.{◌≡◌, false, IfNone, IfSome, Ok, OnErr, IsTrue};
 ghost use Rattle.h41_codes.specs.ShortLines.{line_of};
-ghost use Rattle.h41_focal.specs.MachineCalls.{outcome_by};
 ghost use Rattle.h41_positions.specs.LabelledMachine.{machine_of};
 ghost use Rattle.h41_focal.specs.LineStep.{Stands};
 ghost use Rattle.h41_focal.specs.private.Carrying.{StandsNoNumber, StandsNoShort, StandsNumber};
-ghost use Rattle.h41_focal.specs.private.Carrying.{TakesAs};
+ghost use Rattle.h41_focal.specs.private.Carrying.{CarriesAs};
 ghost use Rattle.h41_focal.specs.private.Searching.{AsksOf};
 ghost use Rattle.h41_labels.specs.KeptAnswers.{IsRight};
 ghost use Rattle.h41_pages.specs.PageMap.{PageMap};
@@ -14,13 +13,14 @@ ghost use Rattle.h41_ram.specs.RamState.{KeepsMark};
 ghost use Rattle.h41_ram.specs.RegisterMap.{is_sound};
 ghost use Rattle.h41_rows.specs.RowMarks.{LeavesMark};
 
+use crate::calls::call_module;
 use crate::functions::plain_at_once;
 use crate::labels::to_label;
 use crate::lines::{indirect, short};
 use crate::machine::Machine;
 use crate::operand_lines::with_operand;
 use crate::origin::Origin;
-use crate::outcome::{LineOutcome, is_done};
+use crate::outcome::LineOutcome;
 use crate::refusal::FocalRefusal;
 use crate::stack_lines::be_silent;
 use h41_codes::{Branch, Parameter, ShortLine};
@@ -72,52 +72,42 @@ pub fn number_standing<const REGS: usize>(machine: &Machine<REGS>) -> Option<(Te
     }
 }
 
-/// Executes a short line (at most three bytes, without a text), and returns whether its outcome is `Done`. If not,
-/// `outcome` receives the outcome, or the error: NotInProfile (13) if the bench does not support the line,
-/// or BrokenProgram (14) if a line to be skipped cannot be read.
+/// Executes a short line (at most three bytes, without a text) with all that it calls, and returns its outcome.
+/// NotInProfile (13) if the bench does not support the line, BrokenProgram (14) if a line to be skipped cannot be read.
+/// After these errors nothing has changed.
 #[inline(always)]
 pub fn carry_short<const REGS: usize>(
     machine: &mut Machine<REGS>,
     pages: &Pages,
     origin: Origin,
     line: ShortLine,
-    outcome: &mut Result<LineOutcome, FocalRefusal>,
-) -> bool
+) -> Result<LineOutcome, FocalRefusal>
     requires sound { IsTrue (is_sound machine.old.ram.registers) }
     requires right { IsRight machine.old.focal.labels machine.old.ram.registers }
-    ensures taken { TakesAs pages.now origin (line_of line)
-        (machine_of machine.old) (machine_of machine.new) (outcome_by result outcome.new) }
-    ensures unchanged { OnErr (outcome_by result outcome.new) (machine.new ≡ machine.old) }
+    ensures taken { CarriesAs pages.now origin (line_of line) (machine_of machine.old)
+        (machine_of machine.new) result }
+    ensures unchanged { OnErr result (machine_of machine.new ≡ machine_of machine.old) }
     ensures kept { AsksOf origin (line_of line) machine.old machine.new }
     ensures mark { KeepsMark machine.old.ram machine.new.ram }
     ensures left { LeavesMark machine.old.ram machine.new.ram }
 {
     match line {
-        ShortLine::LocalLabel(_) => is_done(Ok(be_silent(machine, origin)), outcome),
-        ShortLine::Register(function, register) => is_done(
-            short(machine, origin, function, register),
-            outcome,
+        ShortLine::LocalLabel(_) => Ok(be_silent(machine, origin)),
+        ShortLine::Register(function, register) => short(machine, origin, function, register),
+        ShortLine::Plain(function) => plain_at_once(machine, pages, origin, function),
+        ShortLine::WithOperand(function, operand) => with_operand(
+            machine, pages, origin, function, &operand,
         ),
-        ShortLine::Plain(function) => plain_at_once(machine, pages, origin, function, outcome),
-        ShortLine::WithOperand(function, operand) => is_done(
-            with_operand(machine, pages, origin, function, &operand),
-            outcome,
-        ),
-        ShortLine::Module(number, entry) => is_done(Ok(LineOutcome::Calls(number, entry)), outcome),
-        ShortLine::BranchIndirect(branch, register) => is_done(
-            indirect(machine, pages, origin, branch, register),
-            outcome,
+        ShortLine::Module(number, entry) => Ok(call_module(machine, pages, origin, number, entry)),
+        ShortLine::BranchIndirect(branch, register) => indirect(
+            machine, pages, origin, branch, register,
         ),
         ShortLine::ShortGoTo(label, _) => {
             let label = Parameter::new(label.number());
-            is_done(
-                Ok(to_label(machine, pages, origin, Branch::GoTo, label)),
-                outcome,
-            )
+            Ok(to_label(machine, pages, origin, Branch::GoTo, label))
         }
-        ShortLine::BranchTo(branch, _, _, label) => is_done(
-            Ok(to_label(machine, pages, origin, branch, label)),
-            outcome,
-        ),
+        ShortLine::BranchTo(branch, _, _, label) => Ok(to_label(
+            machine, pages, origin, branch, label,
+        )),
     }
 }

@@ -11,10 +11,15 @@ use Rattle.h41_positions.specs.FocalState as focal
 use Rattle.h41_positions.specs.FocalState.{FocalState, Machine}
 use Rattle.h41_focal.specs.Outcomes.{Answer}
 use Rattle.h41_focal.specs.Outcomes as answers
+use Rattle.h41_focal.specs.LineStep.{Left}
+use Rattle.h41_focal.specs.OutsideCalls as sources
+use Rattle.h41_focal.specs.OutsideCalls.{CarriesLine, LineSource}
 use Rattle.h41_focal.specs.declared.refusal.FocalRefusal.{FocalRefusal}
+use Rattle.h41_focal.specs.declared.refusal.FocalRefusal.TheVariants as lines
 use Rattle.h41_keys.specs.KeyPress as keyboard
 use Rattle.h41_keys.specs.declared.input.TypedEntry.TheVariants as entries
 use Rattle.h41_keys.specs.declared.input.Input.{Input}
+use Rattle.h41_program.specs.declared.refusal.ProgramRefusal.TheVariants as program
 use Rattle.h41_ram.specs.RegisterMap as ram
 use Rattle.h41_nut.specs.Processor.{initial_state, at_function}
 use Rattle.h41_nut.specs.Addresses.{end_of_function}
@@ -27,11 +32,10 @@ use Rattle.h41_xrom.specs.declared.calculator.Caller.TheVariants as callers
 use Rattle.h41_xrom.specs.declared.calculator.Mode.{Mode}
 use Rattle.h41_xrom.specs.declared.calculator.Mode.TheVariants as modes
 use Rattle.h41_xrom.specs.declared.refusal.CalculatorRefusal.{CalculatorRefusal}
-use Rattle.h41_xrom.specs.declared.refusal.CalculatorRefusal.TheVariants.{Word, Busy}
-use Rattle.h41_xrom.specs.Lines.{Answers, Begins, CarriesLine, Ended, of_line}
+use Rattle.h41_xrom.specs.declared.refusal.CalculatorRefusal.TheVariants.{Busy, MemoryLost}
+use Rattle.h41_xrom.specs.declared.refusal.CalculatorRefusal.TheVariants.{NotInProfile, Program}
+use Rattle.h41_xrom.specs.declared.refusal.CalculatorRefusal.TheVariants.{Word}
 use Rattle.h41_xrom.specs.Messages.{message_after, processor_after}
-use Rattle.h41_xrom.specs.declared.lines.LineSource.{LineSource}
-use Rattle.h41_xrom.specs.declared.lines.LineSource.TheVariants.{Program}
 
 -- The state of the calculator.
 pub record CalculatorState : Type 0 where
@@ -154,26 +158,32 @@ mode_after (answers.Failed fault) mode = modes.Idle
 mode_after answers.Runs mode = modes.Run
 mode_after answer mode = mode
 
--- The calculator after the answer of a line: it is shown, and a program continues, stops or starts.
+-- The calculator after the answer of a line: it is shown, and a program continues, stops or starts;
+-- or a module's function in microcode runs.
 abbrev pub after_answer : Answer → CalculatorState → CalculatorState
+after_answer (answers.Begins address) s = with_function address s
 after_answer answer s = record (with_shown answer s) { mode = mode_after answer s.mode }
 
--- The calculator after a line was executed, by how it ended; or a module's function in microcode
--- runs.
-abbrev pub after_line : CalculatorState → Ended → CalculatorState
-after_line s (Answers left) = after_answer left.answer (with_machine left.machine s)
-after_line s (Begins machine address) = with_function address (with_machine machine s)
+-- The calculator after a line was executed.
+abbrev pub after_line : CalculatorState → Left → CalculatorState
+after_line s left = after_answer left.answer (with_machine left.machine s)
 
--- One line is executed, or refused.
-abbrev pub CarriesHere : LineSource → CalculatorState → Result Ended FocalRefusal → Type 0
-CarriesHere source s ended = CarriesLine source s.nut.pages (machine_of s) ended
+-- The refusal of a line, as the calculator's.
+abbrev pub of_line : FocalRefusal → CalculatorRefusal
+of_line lines.MemoryLost = MemoryLost
+of_line lines.BrokenProgram = Program program.BrokenProgram
+of_line lines.NotInProfile = NotInProfile
+
+-- One line is executed with all that it calls, or refused.
+abbrev pub CarriesHere : LineSource → CalculatorState → Result Left FocalRefusal → Type 0
+CarriesHere source s carried = CarriesLine source s.nut.pages (machine_of s) carried
 
 -- Why the step of a line is refused, or that it is not.
 abbrev pub RefusesLine : CalculatorState → Option CalculatorRefusal → Type 0
 RefusesLine s why =
-    (ended : Result Ended FocalRefusal)
-    × CarriesHere Program s ended
-    × (why ≡ option_map of_line (result_err ended))
+    (carried : Result Left FocalRefusal)
+    × CarriesHere sources.Program s carried
+    × (why ≡ option_map of_line (result_err carried))
 
 -- Why a step in a mode is refused, or that it is not: while a function runs, the step is a word,
 -- otherwise a line.
@@ -209,7 +219,9 @@ after_word caller s nut = record s {
 -- The step of a line, which also ends the entry of a number or a text.
 abbrev pub StepsByLine : CalculatorState → CalculatorState → Type 0
 StepsByLine s t =
-    (ended : Ended) × CarriesHere Program s (Ok ended) × (t ≡ after_line (not_typing s) ended)
+    (left : Left)
+    × CarriesHere sources.Program s (Ok left)
+    × (t ≡ after_line (not_typing s) left)
 
 -- One step in a mode: a word while a function runs, otherwise a line.
 abbrev pub StepIn : Mode → CalculatorState → CalculatorState → Type 0

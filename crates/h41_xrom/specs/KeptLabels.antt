@@ -5,6 +5,8 @@ use Rattle.h41_codes.specs.declared.functions.Function.TheVariants.{ClearX}
 use Rattle.h41_codes.specs.declared.line.Line.TheVariants as lines
 use Rattle.h41_editor.specs.Changes.{MarksDeletion}
 use Rattle.h41_focal.specs.LabelSearches.{StepKeeps, TypingKeeps}
+use Rattle.h41_focal.specs.OutsideCalls as sources
+use Rattle.h41_focal.specs.OutsideCalls.{LineSource}
 use Rattle.h41_keys.specs.declared.action.Action.{Action}
 use Rattle.h41_keys.specs.declared.action.Action.TheVariants as actions
 use Rattle.h41_keys.specs.declared.input.Flags.{Flags}
@@ -22,13 +24,11 @@ use Rattle.h41_xrom.specs.KeyActions.{HasFlags, key_refusal, press_of}
 use Rattle.h41_xrom.specs.LabelledCalculator.{CacheState, LabelledCalculator, labelled}
 use Rattle.h41_xrom.specs.declared.calculator.Mode.{Mode}
 use Rattle.h41_xrom.specs.declared.calculator.Mode.TheVariants as modes
-use Rattle.h41_xrom.specs.declared.lines.LineSource.{LineSource}
-use Rattle.h41_xrom.specs.declared.lines.LineSource.TheVariants as sources
 
 -- The cache after a line at the position, or after a typed line: if the dirty flag is set, the
 -- cache is emptied first. Then the line's own search is cached, if it makes one.
 abbrev pub KeepsSearchBy : LineSource → PageMap → (old new : LabelledMachine) → Type 0
-KeepsSearchBy sources.Program pages old new = StepKeeps pages None old new
+KeepsSearchBy sources.Program pages old new = StepKeeps pages old new
 KeepsSearchBy (sources.Keys line) pages old new = TypingKeeps line old new
 
 -- The cache after a line with all that it calls. What it calls outside program memory makes no

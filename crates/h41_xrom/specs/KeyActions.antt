@@ -15,6 +15,11 @@ use Rattle.h41_codes.specs.declared.line.Line.TheVariants as lines
 use Rattle.h41_editor.specs.Changes.{Deletes, Inserts, Replaces}
 use Rattle.h41_editor.specs.Moves.{GoesToEnd, ShowsBefore, ShowsNext}
 use Rattle.h41_positions.specs.FocalState.{Machine}
+use Rattle.h41_focal.specs.LineStep.{Left, left_done}
+use Rattle.h41_focal.specs.Outcomes.{Answer}
+use Rattle.h41_focal.specs.Outcomes as answers
+use Rattle.h41_focal.specs.OutsideCalls as sources
+use Rattle.h41_focal.specs.OutsideCalls.{CarriesLine, IsNamed, LineSource}
 use Rattle.h41_focal.specs.declared.refusal.FocalRefusal.{FocalRefusal}
 use Rattle.h41_keys.specs.Keyboard.{code_of}
 use Rattle.h41_keys.specs.KeyPress.{presses}
@@ -47,27 +52,18 @@ use Rattle.h41_rows.specs.Places.{X}
 use Rattle.h41_rows.specs.RowEffects.{last_24, takes_of, with_taken}
 use Rattle.h41_rows.specs.Rows.{coming_in, compute}
 use Rattle.h41_rows.specs.Values.{Computes, Written}
-use Rattle.h41_xrom.specs.Calculator.{CalculatorState, after_line, is_idle, machine_of}
-use Rattle.h41_xrom.specs.Calculator.{with_machine}
-use Rattle.h41_xrom.specs.Lines.{CarriesLine, Ended, IsNamed, of_line}
+use Rattle.h41_xrom.specs.Calculator.{CalculatorState, after_line, is_idle, machine_of, of_line}
 use Rattle.h41_xrom.specs.Programs.{Becomes}
 use Rattle.h41_xrom.specs.declared.calculator.Mode.{Mode}
 use Rattle.h41_xrom.specs.declared.calculator.Mode.TheVariants as modes
-use Rattle.h41_xrom.specs.declared.lines.LineSource.{LineSource}
-use Rattle.h41_xrom.specs.declared.lines.LineSource.TheVariants as sources
 use Rattle.h41_xrom.specs.declared.refusal.CalculatorRefusal.{CalculatorRefusal}
 use Rattle.h41_xrom.specs.declared.refusal.CalculatorRefusal.TheVariants.{KeyNotHeld, MemoryLost}
 use Rattle.h41_xrom.specs.declared.refusal.CalculatorRefusal.TheVariants.{Program}
 
--- WHAT A KEY'S ACTION MAKES of memory and the rest of the state that lines work on.
-pub data KeyOutcome : Type 0 where
-  -- Nothing else remains to be done.
-  Leaves : Machine → KeyOutcome
-  -- A line ended in this way.
-  LineEnds : Ended → KeyOutcome
-  -- The running program stops, or one starts.
-  Stops : Machine → KeyOutcome
-  Starts : Machine → KeyOutcome
+-- WHAT A KEY'S ACTION LEAVES: memory and the rest of the state that lines work on, and an answer as
+-- that of a line. The answer Stopped stops the running program, and Runs starts one.
+abbrev pub left_with : Answer → Machine → Left
+left_with answer machine = record { machine = machine; answer = answer }
 
 -- A machine with another memory.
 abbrev pub with_memory : RegisterMap → Machine → Machine
@@ -78,30 +74,30 @@ abbrev pub with_stack_lift : Bool → Machine → Machine
 with_stack_lift lift machine = record machine { focal = record machine.focal { lift = lift } }
 
 -- An effect on memory alone.
-abbrev pub leaves_memory : RegisterMap → Machine → Result KeyOutcome CalculatorRefusal
-leaves_memory memory machine = Ok (Leaves (with_memory memory machine))
+abbrev pub leaves_memory : RegisterMap → Machine → Result Left CalculatorRefusal
+leaves_memory memory machine = Ok (left_done (with_memory memory machine))
 
 -- A LINE is executed: the one at the position by SST, or a typed one.
-abbrev pub line_effect : Result Ended FocalRefusal → Result KeyOutcome CalculatorRefusal
-line_effect (Ok ended) = Ok (LineEnds ended)
+abbrev pub line_effect : Result Left FocalRefusal → Result Left CalculatorRefusal
+line_effect (Ok left) = Ok left
 line_effect (Err refusal) = Err (of_line refusal)
 
 -- The effect of executing it.
-abbrev pub Carries : LineSource → PageMap → Machine → Result KeyOutcome CalculatorRefusal → Type 0
+abbrev pub Carries : LineSource → PageMap → Machine → Result Left CalculatorRefusal → Type 0
 Carries source pages machine effect =
-    (ended : Result Ended FocalRefusal)
-    × CarriesLine source pages machine ended
-    × (effect ≡ line_effect ended)
+    (carried : Result Left FocalRefusal)
+    × CarriesLine source pages machine carried
+    × (effect ≡ line_effect carried)
 
 -- PROGRAM MODE: what a key leaves after an edit of the program, or a move in it: the changed
 -- machine, or the refusal.
-abbrev pub edit_effect : Result Machine ProgramRefusal → Result KeyOutcome CalculatorRefusal
-edit_effect (Ok machine) = Ok (Leaves machine)
+abbrev pub edit_effect : Result Machine ProgramRefusal → Result Left CalculatorRefusal
+edit_effect (Ok machine) = Ok (left_done machine)
 edit_effect (Err refusal) = Err (Program refusal)
 
 -- An edit, or a move, is made.
 abbrev pub Edits : (Machine → Result Machine ProgramRefusal → Type 0) → Machine
-    → Result KeyOutcome CalculatorRefusal → Type 0
+    → Result Left CalculatorRefusal → Type 0
 Edits edit machine effect =
     (edited : Result Machine ProgramRefusal) × edit machine edited × (effect ≡ edit_effect edited)
 
@@ -131,7 +127,7 @@ IsStoredAs pages memory (lines.Named ExecuteName name) stored =
 IsStoredAs pages memory line stored = stored ≡ line
 
 -- A typed line is stored.
-abbrev pub StoresLine : PageMap → Line → Machine → Result KeyOutcome CalculatorRefusal → Type 0
+abbrev pub StoresLine : PageMap → Line → Machine → Result Left CalculatorRefusal → Type 0
 StoresLine pages line machine effect =
     (stored : Line)
     × IsStoredAs pages machine.memory line stored
@@ -152,22 +148,22 @@ with_number_started machine register =
     (with_flag (taken_in machine.memory machine.focal.lift register) number_entry true) machine)
 
 -- The first character of a number.
-abbrev pub BeginsNumber : List Character → Machine → Result KeyOutcome CalculatorRefusal → Type 0
+abbrev pub BeginsNumber : List Character → Machine → Result Left CalculatorRefusal → Type 0
 BeginsNumber text machine effect =
     (register : List ℕ)
     × Computes (Written text) machine.memory 0 (Ok register)
-    × (effect ≡ Ok (Leaves (with_number_started machine register)))
+    × (effect ≡ Ok (left_done (with_number_started machine register)))
 
 -- Memory after a further character: the number in X is replaced.
 abbrev pub with_number_changed : Machine → List ℕ → Machine
 with_number_changed machine register = with_memory (taken_in machine.memory false register) machine
 
 -- A further character of a number, or one that is removed.
-abbrev pub ChangesNumber : List Character → Machine → Result KeyOutcome CalculatorRefusal → Type 0
+abbrev pub ChangesNumber : List Character → Machine → Result Left CalculatorRefusal → Type 0
 ChangesNumber text machine effect =
     (register : List ℕ)
     × Computes (Written text) machine.memory 0 (Ok register)
-    × (effect ≡ Ok (Leaves (with_number_changed machine register)))
+    × (effect ≡ Ok (left_done (with_number_changed machine register)))
 
 -- ALPHA: its 24 bytes end with the text, after nulls.
 abbrev pub with_text : RegisterMap → List ℕ → RegisterMap
@@ -183,10 +179,12 @@ with_alpha_toggled memory = with_flag memory alpha_mode (not (flag_of memory alp
 
 -- EACH ACTION, and whether program mode is on, in which lines are stored.
 abbrev pub Acts : PageMap → (program_mode : Bool) → Action → Machine
-    → Result KeyOutcome CalculatorRefusal → Type 0
-Acts pages program_mode actions.Nothing machine effect = effect ≡ Ok (Leaves machine)
-Acts pages program_mode actions.Stop machine effect = effect ≡ Ok (Stops machine)
-Acts pages program_mode actions.Run machine effect = effect ≡ Ok (Starts machine)
+    → Result Left CalculatorRefusal → Type 0
+Acts pages program_mode actions.Nothing machine effect = effect ≡ Ok (left_done machine)
+Acts pages program_mode actions.Stop machine effect =
+    effect ≡ Ok (left_with answers.Stopped machine)
+Acts pages program_mode actions.Run machine effect =
+    effect ≡ Ok (left_with answers.Runs machine)
 -- SST executes a line; in program mode it shows the next one.
 Acts pages program_mode actions.Step machine effect =
     MatchBool program_mode (Edits (ShowsNext pages) machine effect)
@@ -279,17 +277,10 @@ with_key_accepted key input s = record s {
   message = message_after_key s.mode s.message;
 }
 
--- Then the effect of its action follows.
-abbrev pub after_key : CalculatorState → KeyOutcome → CalculatorState
-after_key s (Leaves machine) = with_machine machine s
-after_key s (LineEnds ended) = after_line s ended
-after_key s (Stops machine) = record (with_machine machine s) { mode = modes.Idle }
-after_key s (Starts machine) = record (with_machine machine s) { mode = modes.Run }
-
--- The calculator after the effect of an action, or the refusal of the action.
-abbrev pub after_outcome : CalculatorState → Result KeyOutcome CalculatorRefusal
+-- The calculator after what an action leaves, or the refusal of the action.
+abbrev pub after_outcome : CalculatorState → Result Left CalculatorRefusal
     → Result CalculatorState CalculatorRefusal
-after_outcome s (Ok effect) = Ok (after_key s effect)
+after_outcome s (Ok left) = Ok (after_line s left)
 after_outcome s (Err refusal) = Err refusal
 
 -- Why a key that has a meaning is refused before its action: MemoryLost (15) if nothing runs and
@@ -303,7 +294,7 @@ abbrev pub ActionMakes : CalculatorState → Key → Action → Input
     → Result CalculatorState CalculatorRefusal → Type 0
 ActionMakes s key action input made =
     MatchOption (key_refusal s)
-    ((effect : Result KeyOutcome CalculatorRefusal)
+    ((effect : Result Left CalculatorRefusal)
     × Acts s.nut.pages input.program_mode action (machine_of s) effect
     × (made ≡ after_outcome (with_key_accepted key input s) effect))
     (λ why. made ≡ Err why)

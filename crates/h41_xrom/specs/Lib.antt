@@ -4,7 +4,6 @@ pub mod Display
 pub mod KeptLabels
 pub mod KeyActions
 pub mod LabelledCalculator
-pub mod Lines
 pub mod Messages
 pub mod Programs
 pub mod private

@@ -31,7 +31,8 @@ message_after answers.Stopped message = message
 message_after answers.TurnedOff message = message
 message_after (answers.Answered holds) message = Some (test_text holds)
 message_after answers.Runs message = message
--- A call outside memory, which is still to be looked up, does not change it.
+-- A line whose function is executed elsewhere does not change it.
+message_after (answers.Begins address) message = message
 message_after (answers.Calls number entry) message = message
 message_after (answers.Seeks name) message = message
 

@@ -20,16 +20,14 @@ ghost use Rattle.h41_xrom.specs.KeptLabels.{KeepsAfterKey, KeepsAfterLine, Keeps
 ghost use Rattle.h41_xrom.specs.KeptLabels.{KeepsAfterProgram, KeepsAfterStep, KeepsAfterStepIn};
 ghost use Rattle.h41_xrom.specs.KeyActions as keys;
 ghost use Rattle.h41_xrom.specs.LabelledCalculator.{cache_of, no_searches};
-ghost use Rattle.h41_xrom.specs.declared.lines.LineSource.TheVariants.{Program};
-ghost use Rattle.h41_xrom.specs.private.PrivateCalls.{Accepts, EndsOutcome, IsAccepted};
-ghost use Rattle.h41_xrom.specs.private.PrivateCalls.{StaysClear, after_effect, after_end};
+ghost use Rattle.h41_xrom.specs.private.PrivateCalls.{Accepts, IsAccepted};
 ghost use Rattle.h41_keys.specs.declared.input.TypedEntry.TheVariants as entries;
 ghost use Rattle.h41_focal.specs.Outcomes.{answer_of};
+ghost use Rattle.h41_focal.specs.OutsideCalls.{Program};
 ghost use Rattle.h41_xrom.specs.declared.calculator.Mode.TheVariants.{Micro};
 ghost use Rattle.h41_xrom.specs.Programs.{Becomes, Loads, change_refusal, size_makes};
 
-use crate::acting::{KeyEffect, act};
-use crate::lines::{LineEnd, LineSource, call_out};
+use crate::acting::act;
 use crate::messages::{DisplayText, fault_text, test_text};
 use crate::places::shown_place;
 use crate::refusal::CalculatorRefusal;
@@ -306,61 +304,31 @@ impl<const REGS: usize> Calculator<REGS> {
         ensures kept { KeepsAfterLine Program self.old.state.nut.pages (machine_of self.old.state)
             self.old.cache self.new.cache }
     {
-        let mut outcome = Ok(LineOutcome::Done);
-        if self.machine.step_into(&self.pages, &mut outcome) {
-            self.end_entry();
-            return Ok(());
-        }
-        match outcome {
-            Ok(outcome) => self.end_outcome(outcome),
-            Err(refusal) => Err(refusal.into()),
-        }
-    }
-
-    /// Ends the line at the position, after it was executed with this outcome: executes what it calls outside memory, and
-    /// shows its result or starts a module's function. The errors are MemoryLost (15), BrokenProgram (14) and NotInProfile (13). Nothing is changed
-    /// then.
-    #[inline(never)]
-    fn end_outcome(&mut self, outcome: LineOutcome) -> Result<(), CalculatorRefusal>
-        ensures line { EndsOutcome outcome self.old.state self.new.state (result_err result) }
-        ensures kept { StaysClear self.old.cache self.new.cache }
-    {
-        match call_out(
-            &mut self.machine,
-            &self.pages,
-            &LineSource::Program,
-            outcome,
-        ) {
-            Ok(end) => {
+        match self.machine.step(&self.pages) {
+            Ok(outcome) => {
                 self.end_entry();
-                self.end_line(end);
+                self.end_line(outcome);
                 Ok(())
             }
             Err(refusal) => Err(refusal.into()),
         }
     }
 
-    /// Shows the result of a line that was executed, or starts the function in microcode that the line calls.
+    /// Shows the result of a line that was executed, and changes the mode if the line stops or starts a program; or starts
+    /// the function in microcode that the line calls.
     #[inline(always)]
-    fn end_line(&mut self, end: LineEnd)
-        ensures state { self.new.state ≡ after_end end self.old.state }
-        ensures cache { self.new.cache ≡ self.old.cache }
-    {
-        match end {
-            LineEnd::Answers(outcome) => self.answer(outcome),
-            LineEnd::Begins(address) => self.enter(address),
-        }
-    }
-
-    /// Shows the result of an executed line, and changes the mode if the line stops or starts a program.
-    #[inline(always)]
-    fn answer(&mut self, outcome: LineOutcome)
+    fn end_line(&mut self, outcome: LineOutcome)
         ensures state { self.new.state
             ≡ after_answer (answer_of self.old.state.nut.ram outcome) self.old.state }
         ensures cache { self.new.cache ≡ self.old.cache }
     {
-        self.mode = mode_after_line(self.mode, &outcome);
-        self.show(outcome);
+        match outcome {
+            LineOutcome::Begins(address) => self.enter(address),
+            outcome => {
+                self.mode = mode_after_line(self.mode, &outcome);
+                self.show(outcome);
+            }
+        }
     }
 
     /// Shows the result of an executed line in the display: a text, an error or the answer of a test as the message.
@@ -387,8 +355,7 @@ impl<const REGS: usize> Calculator<REGS> {
             LineOutcome::Done
             | LineOutcome::Stopped
             | LineOutcome::Runs
-            | LineOutcome::Calls(_, _)
-            | LineOutcome::Seeks(_) => {}
+            | LineOutcome::Begins(_) => {}
         }
     }
 
@@ -426,9 +393,9 @@ impl<const REGS: usize> Calculator<REGS> {
     {
         self.check_memory()?;
         match act(&mut self.machine, &self.pages, input.program_mode, action) {
-            Ok(effect) => {
+            Ok(outcome) => {
                 self.tell(key, input);
-                self.finish(effect);
+                self.end_line(outcome);
                 Ok(())
             }
             Err(refusal) => Err(refusal),
@@ -482,20 +449,6 @@ impl<const REGS: usize> Calculator<REGS> {
         self.input = input;
         if self.mode == Mode::Idle {
             self.message = None;
-        }
-    }
-
-    /// Does what remains after a key has changed memory: shows the result of a line or starts its function, stops the
-    /// program, or starts one.
-    fn finish(&mut self, effect: KeyEffect)
-        ensures state { self.new.state ≡ after_effect effect self.old.state }
-        ensures cache { self.new.cache ≡ self.old.cache }
-    {
-        match effect {
-            KeyEffect::Nothing => {}
-            KeyEffect::Line(end) => self.end_line(end),
-            KeyEffect::Stops => self.mode = Mode::Idle,
-            KeyEffect::Starts => self.mode = Mode::Run,
         }
     }
 

@@ -5,7 +5,6 @@ mod acting;
 mod calculator;
 mod display;
 pub mod laws;
-mod lines;
 mod messages;
 mod places;
 mod refusal;

@@ -7,9 +7,8 @@ ghost use Rattle.h41_ram.specs.RegisterMap.{is_sound};
 ghost use Rattle.h41_xrom.specs.KeyActions.{IsStoredAs};
 ghost use Rattle.h41_xrom.specs.private.PrivateCalls.{StoresFor};
 
-use crate::lines::function_named;
 use h41_codes::{EntryNumber, Line, ModuleNumber, NameFunction};
-use h41_focal::Machine;
+use h41_focal::{Machine, function_named};
 use h41_pages::Pages;
 use h41_program::global;
 

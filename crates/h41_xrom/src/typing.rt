@@ -3,14 +3,13 @@
 ghost use Rattle.std.specs.Prelude.{◌≡◌, [], ◌∷◌, ◌++◌, take, Ok};
 ghost use Rattle.h41_positions.specs.LabelledMachine.{Keeps, machine_of};
 ghost use Rattle.h41_ram.specs.RegisterMap.{alpha_of};
-ghost use Rattle.h41_xrom.specs.KeyActions.{BeginsNumber, ChangesNumber, Leaves};
+ghost use Rattle.h41_focal.specs.LineStep.{left_done};
+ghost use Rattle.h41_xrom.specs.KeyActions.{BeginsNumber, ChangesNumber};
 ghost use Rattle.h41_xrom.specs.KeyActions.{with_alpha_toggled, with_letters, with_text};
-ghost use Rattle.h41_xrom.specs.declared.acting.KeyEffect.TheVariants.{Nothing};
 ghost use Rattle.h41_ram.specs.RamState.{KeepsMark};
 ghost use Rattle.h41_rows.specs.RowMarks.{LeavesMark};
 ghost use Rattle.h41_xrom.specs.private.PrivateCalls.{lettered};
 
-use crate::acting::KeyEffect;
 use h41_codes::Number;
 use h41_focal::Machine;
 use h41_keys::Action;
@@ -19,11 +18,10 @@ use h41_ram::{ALPHA_LENGTH, Ram};
 use h41_rows::{append_text, bring_in, replace_text, written};
 
 /// Writes the number that was begun by its first key to X. The stack is lifted first if stack lift is enabled.
-/// Stack lift is enabled afterwards, and flag 22 is set. Nothing remains to be done (`KeyEffect::Nothing`).
-pub fn begin_number<const REGS: usize>(machine: &mut Machine<REGS>, number: &Number) -> KeyEffect
+/// Stack lift is enabled afterwards, and flag 22 is set.
+pub fn begin_number<const REGS: usize>(machine: &mut Machine<REGS>, number: &Number)
     ensures number { BeginsNumber number.now (machine_of machine.old)
-        (Ok (Leaves (machine_of machine.new))) }
-    ensures effect { result ≡ Nothing }
+        (Ok (left_done (machine_of machine.new))) }
     ensures keeps { Keeps machine.old machine.new }
     ensures left { LeavesMark machine.old.ram machine.new.ram }
 {
@@ -31,20 +29,16 @@ pub fn begin_number<const REGS: usize>(machine: &mut Machine<REGS>, number: &Num
     bring_in(&mut machine.ram, written(number), focal.lift);
     machine.ram.set_flag(NUMBER_ENTRY, true);
     focal.lift = true;
-    KeyEffect::Nothing
 }
 
-/// Writes the number that is being typed to X again, after a further key. The stack is not lifted. Nothing remains to
-/// be done (`KeyEffect::Nothing`).
-pub fn change_number<const REGS: usize>(machine: &mut Machine<REGS>, number: &Number) -> KeyEffect
+/// Writes the number that is being typed to X again, after a further key. The stack is not lifted.
+pub fn change_number<const REGS: usize>(machine: &mut Machine<REGS>, number: &Number)
     ensures number { ChangesNumber number.now (machine_of machine.old)
-        (Ok (Leaves (machine_of machine.new))) }
-    ensures effect { result ≡ Nothing }
+        (Ok (left_done (machine_of machine.new))) }
     ensures keeps { Keeps machine.old machine.new }
     ensures left { LeavesMark machine.old.ram machine.new.ram }
 {
     bring_in(&mut machine.ram, written(number), false);
-    KeyEffect::Nothing
 }
 
 /// Performs what a typed letter, the correction key in ALPHA mode, or the key ALPHA does to memory. Other actions

@@ -1,5 +1,5 @@
 -- Definitions for the private functions that move to labels and return addresses.
-use Rattle.std.specs.Prelude.{◌≡◌, List, [], ◌∷◌, reverse}
+use Rattle.std.specs.Prelude.{◌≡◌, Bool, ◌||◌, if◌then◌else◌, List, [], ◌∷◌, reverse}
 use Rattle.h41_codes.specs.declared.functions.Branch.{Branch}
 use Rattle.h41_codes.specs.declared.functions.Branch.TheVariants.{GoTo, Execute}
 use Rattle.h41_focal.specs.Destinations.{with_return}
@@ -10,8 +10,10 @@ use Rattle.h41_focal.specs.declared.origin.Origin.TheVariants.{Program, Typed}
 use Rattle.h41_focal.specs.declared.outcome.LineOutcome.{LineOutcome}
 use Rattle.h41_focal.specs.declared.outcome.LineOutcome.TheVariants as outcomes
 use Rattle.h41_pages.specs.PageMap.{PageMap}
+use Rattle.h41_pages.specs.declared.functions.Entry.{Entry}
 use Rattle.h41_positions.specs.Positions.{StartOf}
 use Rattle.h41_positions.specs.declared.position.Position.{Position}
+use Rattle.h41_positions.specs.declared.position.Position.TheVariants.{Page}
 
 -- The position from which a local label is searched.
 abbrev pub from_of : Origin → Position → Position
@@ -30,6 +32,25 @@ abbrev pub answer_at : Origin → Branch → LineOutcome
 answer_at origin GoTo = outcomes.Done
 answer_at (Program next) Execute = outcomes.Done
 answer_at Typed Execute = outcomes.Runs
+
+-- The state after a line whose function is executed elsewhere.
+abbrev pub passed_state : Origin → (lifts : Bool) → FocalState → FocalState
+passed_state (Program next) lifts focal =
+    record (at_position next focal) { lift = lifts || focal.lift }
+passed_state Typed lifts focal = focal
+
+-- The state after a call of a module's function: a function in microcode runs elsewhere, a keystroke
+-- program is called.
+abbrev pub state_in_entry : Origin → (lifts : Bool) → Entry → FocalState → FocalState
+state_in_entry origin lifts entry focal =
+    if entry.keystroke then
+        focal_at origin Execute (Page entry.address) (passed_state origin lifts focal)
+    else passed_state origin lifts focal
+
+-- The outcome of such a call.
+abbrev pub outcome_of_entry : Origin → Entry → LineOutcome
+outcome_of_entry origin entry =
+    if entry.keystroke then answer_at origin Execute else outcomes.Begins entry.address
 
 -- The machine at the newest return address, or at line 00 if there is none. The return addresses
 -- are given with the newest first.

@@ -1,8 +1,9 @@
 -- Definitions for the private functions that execute lines.
-use Rattle.std.specs.Prelude.{◌≡◌, ◌≤◌, ℕ, length, Some, Bool, true, false, List, MatchBool}
+use Rattle.std.specs.Prelude.{◌≡◌, ◌≤◌, ℕ, length, Option, Some, Bool, true, false, List, MatchBool}
 use Rattle.std.specs.Prelude.{IsTrue, None, Result, Ok, Err}
 use Rattle.h41_codes.specs.declared.characters.Character.{Character}
 use Rattle.h41_codes.specs.declared.functions.Branch.{Branch}
+use Rattle.h41_codes.specs.declared.functions.Function.{Function}
 use Rattle.h41_codes.specs.declared.functions.NameFunction.{NameFunction}
 use Rattle.h41_codes.specs.declared.functions.ParameterFunction.{ParameterFunction}
 use Rattle.h41_codes.specs.declared.functions.RegisterFunction.{RegisterFunction}
@@ -15,9 +16,9 @@ use Rattle.h41_rows.specs.Results.{result_map}
 use Rattle.h41_focal.specs.Destinations.{Manner}
 use Rattle.h41_focal.specs.Destinations as destinations
 use Rattle.h41_focal.specs.MachineCalls.{Call, carried_as, left_of}
-use Rattle.h41_focal.specs.LineStep.{Applies, EndsInError, Stands}
+use Rattle.h41_focal.specs.LineStep.{Applies, EndsInError, Left, Stands, TakesLine}
+use Rattle.h41_focal.specs.OutsideCalls.{CallsName, CarriesWhole, GoesOnFrom, left_by_entry}
 use Rattle.h41_positions.specs.FocalState.{FocalState, Machine}
-use Rattle.h41_focal.specs.LineStep.{TakesLine, stack_lift_after}
 use Rattle.h41_positions.specs.FocalState.{at_position}
 use Rattle.h41_rows.specs.Operands.{Address, Count, DigitKind, FlagKind, NoOperand, RegisterKind}
 use Rattle.h41_rows.specs.Operands.{meant_as}
@@ -42,7 +43,9 @@ use Rattle.h41_focal.specs.declared.uses.DigitsUse.{DigitsUse}
 use Rattle.h41_focal.specs.declared.uses.FlagUse.{FlagUse}
 use Rattle.h41_focal.specs.declared.uses.FlagUse.TheVariants.{AskAndClear}
 use Rattle.h41_focal.specs.declared.uses.RegisterUse.{RegisterUse}
+use Rattle.h41_pages.specs.FunctionTables.{function_of_name}
 use Rattle.h41_pages.specs.PageMap.{PageMap}
+use Rattle.h41_pages.specs.declared.functions.Entry.{Entry}
 use Rattle.h41_plain_numbers.specs.MemoryNumbers.{HasNoNumber}
 use Rattle.h41_positions.specs.Positions.{NextAt, ShortLineAt}
 use Rattle.h41_positions.specs.declared.position.Position.TheVariants.{Memory}
@@ -60,11 +63,6 @@ abbrev pub on_to_next : Origin → Lift → FocalState → FocalState
 on_to_next (Program next) lift focal =
     record (at_position next focal) { lift = lift_after lift focal.lift }
 on_to_next Typed lift focal = record focal { lift = lift_after lift focal.lift }
-
--- The state after a line whose function is executed elsewhere.
-abbrev pub state_after_line : Line → Position → FocalState → FocalState
-state_after_line line next focal =
-    record (at_position next focal) { lift = stack_lift_after line focal.lift }
 
 -- A row was applied to a machine by a line that searches no position, whatever the pages contain.
 abbrev pub Leaves : Origin → LineRow → ℕ → (old new : Machine) → LineOutcome → Type 0
@@ -100,6 +98,37 @@ test_answer Typed holds = outcomes.Answered holds
 abbrev pub TakesAs : PageMap → Origin → Line → Call
 TakesAs pages origin line old new result =
     TakesLine pages (manner_of origin) line old (carried_as new result)
+
+-- A row was applied to a machine, and what its line calls was executed, or the line was refused.
+abbrev pub CarriesRowWhole : PageMap → Origin → LineRow → ℕ → (old new : Machine)
+    → Result LineOutcome FocalRefusal
+    → Type 0
+CarriesRowWhole pages origin row named old new result =
+    (own : Result Left FocalRefusal)
+    × Applies pages (manner_of origin) row named old own
+    × GoesOnFrom pages (manner_of origin) old own (carried_as new result)
+
+-- A line was executed with all that it calls, or refused.
+abbrev pub CarriesAs : PageMap → Origin → Line → Call
+CarriesAs pages origin line old new result =
+    CarriesWhole pages (manner_of origin) line old (carried_as new result)
+
+-- The table entry of a module's function was called.
+abbrev pub CallsEntry : Origin → (lifts : Bool) → Option Entry → (old new : Machine) → LineOutcome
+    → Type 0
+CallsEntry origin lifts entry old new outcome =
+    carried_as new (Ok outcome) ≡ Ok (left_by_entry (manner_of origin) lifts entry old)
+
+-- What has a name was called, or the function of the calculator with that name was refused.
+abbrev pub CallsNamed : PageMap → Origin → List ℕ → Call
+CallsNamed pages origin name old new result =
+    CallsName pages (manner_of origin) (function_of_name pages name) name old
+    (carried_as new result)
+
+-- The function of a line without an operand.
+abbrev pub IsFunction : Line → Option Function → Type 0
+IsFunction line (Some function) = line ≡ lines.Plain function
+IsFunction line None = (function : Function) → line ≡ lines.Plain function → ⊥
 
 -- A row was applied for the value of an operand that was found, or the line had its error.
 abbrev pub CarriesFound : {A : Type 0} → PageMap → Origin → (A → LineRow) → (A → ℕ)
@@ -198,11 +227,10 @@ abbrev pub GoesToLabel : PageMap → Origin → Branch → ℕ → (old new : Ma
 GoesToLabel pages origin branch label old new outcome =
     (named : ℕ) → CarriesRow pages origin (to_label branch label) named old new (Ok outcome)
 
--- A branch to a name was executed.
-abbrev pub GoesToName : PageMap → Origin → Branch → List ℕ → (old new : Machine) → LineOutcome
-    → Type 0
-GoesToName pages origin branch name old new outcome =
-    (named : ℕ) → CarriesRow pages origin (to_name branch name) named old new (Ok outcome)
+-- A branch to a name was executed with all that it calls, or refused.
+abbrev pub GoesToName : PageMap → Origin → Branch → List ℕ → Call
+GoesToName pages origin branch name old new result =
+    (named : ℕ) → CarriesRowWhole pages origin (to_name branch name) named old new result
 
 -- A return was executed.
 abbrev pub GoesBack : PageMap → Origin → (old new : Machine) → LineOutcome → Type 0
@@ -218,10 +246,10 @@ abbrev pub LineFails : Origin → LineFault → (old new : Machine) → LineOutc
 LineFails origin fault old new outcome =
     EndsInError (manner_of origin) old fault (Ok (left_of new outcome))
 
--- A line with a name was executed, or refused.
+-- A line with a name was executed with all that it calls, or refused.
 abbrev pub TakesNamed : PageMap → Origin → NameFunction → List ℕ → Call
 TakesNamed pages origin function name old new result =
-    TakesAs pages origin (lines.Named function name) old new result
+    CarriesAs pages origin (lines.Named function name) old new result
 
 -- RCL or STO in one byte was executed, or refused.
 abbrev pub TakesShort : PageMap → Origin → RegisterFunction → ℕ → Call
@@ -233,23 +261,21 @@ abbrev pub TakenBy : PageMap → Origin → ParameterFunction → Operand → Ca
 TakenBy pages origin function operand old new result =
     TakesAs pages origin (lines.WithOperand function operand) old new result
 
--- GTO IND or XEQ IND was executed, or refused.
+-- GTO IND or XEQ IND was executed with all that it calls, or refused.
 abbrev pub TakesBranch : PageMap → Origin → Branch → ℕ → Call
 TakesBranch pages origin branch register old new result =
-    TakesAs pages origin (lines.BranchIndirect branch register) old new result
+    CarriesAs pages origin (lines.BranchIndirect branch register) old new result
 
 -- A flag was tested and cleared, or the line was refused.
 abbrev pub ClearsFlag : PageMap → Origin → Bool → ℕ → Call
 ClearsFlag pages origin on flag old new result =
     CarriesFlag pages origin (AskAndClear on) flag old new result
 
--- A branch to the content of a register was executed.
-abbrev pub GoesToTarget : PageMap → Origin → Branch → BranchTarget → (old new : Machine)
-    → LineOutcome
-    → Type 0
-GoesToTarget pages origin branch target old new outcome =
+-- A branch to the content of a register was executed with all that it calls, or refused.
+abbrev pub GoesToTarget : PageMap → Origin → Branch → BranchTarget → Call
+GoesToTarget pages origin branch target old new result =
     (named : ℕ)
-    → CarriesRow pages origin (to_meant branch (meant_by target)) named old new (Ok outcome)
+    → CarriesRowWhole pages origin (to_meant branch (meant_by target)) named old new result
 
 -- A text line changed ALPHA.
 abbrev pub PutsText : List ℕ → RegisterMap → RegisterMap → Type 0

@@ -1,6 +1,6 @@
 -- What a step of a machine promises.
-use Rattle.std.specs.Prelude.{◌≡◌, false, None, Result, OnErr}
-use Rattle.h41_focal.specs.MachineCalls.{OutsideCallKeeps, Steps}
+use Rattle.std.specs.Prelude.{◌≡◌, false, Result, OnErr}
+use Rattle.h41_focal.specs.MachineCalls.{Steps}
 use Rattle.h41_focal.specs.LabelSearches.{StepKeeps}
 use Rattle.h41_positions.specs.LabelledMachine.{AreRight, LabelledMachine, begun_ram, machine_of}
 use Rattle.h41_focal.specs.declared.outcome.LineOutcome.{LineOutcome}
@@ -12,10 +12,9 @@ use Rattle.h41_ram.specs.RamState.{KeepsMark}
 pub record StepsMachine (pages : PageMap) (old new : LabelledMachine)
     (result : Result LineOutcome FocalRefusal)
     : Type 0 where
-  pub line : Steps pages None (machine_of old) (machine_of new) result
+  pub line : Steps pages (machine_of old) (machine_of new) result
   pub unchanged : OnErr result (machine_of new ≡ machine_of old)
-  pub elsewhere : OutsideCallKeeps (machine_of old) (machine_of new) result
-  pub kept : StepKeeps pages None old new
+  pub kept : StepKeeps pages old new
   pub mark : KeepsMark (begun_ram old.ram) new.ram
   pub clear : new.ram.touched ≡ false
   pub right : AreRight new

@@ -1,5 +1,5 @@
+use Rattle.std.proofs.Common.{Ok}
 use Rattle.h41_focal.proofs.LinesTaken.{plain_taken}
-use Rattle.h41_focal.specs.MachineCalls.{outcome_by}
 use Rattle.h41_positions.specs.LabelledMachine.{machine_of}
 use Rattle.h41_focal.specs.declared.works.FunctionWork.TheVariants.{Move, OfX, OfYAndX}
 use Rattle.h41_focal.proofs.functions.plain_at_once.Goals as goal
@@ -9,10 +9,11 @@ returns-in-Some-OfYAndX g c =
     record {
       taken =
           plain_taken c.args.pages.now c.args.origin c.args.function (OfYAndX c.in-Some-OfYAndX.value)
-          (machine_of c.args.machine.now) (machine_of c.of_y_and_x.new.machine) (outcome_by c.is_done.result c.is_done.new.outcome)
+          (machine_of c.args.machine.now) (machine_of c.of_y_and_x.new.machine)
+          (Ok c.of_y_and_x.result)
           (let row = c.work_of.ensures in rw (c.in-Some-OfYAndX.is, c.in-Some-OfYAndX.field-0-is) at row)
-          (rw c.is_done.ensures (c.of_y_and_x.ensures.done 0 c.args.pages.now));
-      unchanged = rw c.is_done.ensures tt;
+          (c.of_y_and_x.ensures.done 0 c.args.pages.now);
+      unchanged = tt;
       keeps = c.of_y_and_x.ensures.keeps;
       left = c.of_y_and_x.ensures.left;
     }
@@ -23,10 +24,10 @@ returns-in-Some-Move g c =
       taken =
           plain_taken c.args.pages.now c.args.origin c.args.function (Move c.in-Some-Move.movement)
           (machine_of c.args.machine.now) (machine_of c.move_stack.new.machine)
-          (outcome_by c.is_done-in-Some-Move.result c.is_done-in-Some-Move.new.outcome)
+          (Ok c.move_stack.result)
           (let row = c.work_of.ensures in rw (c.in-Some-Move.is, c.in-Some-Move.field-0-is) at row)
-          (rw c.is_done-in-Some-Move.ensures (c.move_stack.ensures.done 0 c.args.pages.now));
-      unchanged = rw c.is_done-in-Some-Move.ensures tt;
+          (c.move_stack.ensures.done 0 c.args.pages.now);
+      unchanged = tt;
       keeps = c.move_stack.ensures.keeps;
       left = c.move_stack.ensures.left;
     }
@@ -37,16 +38,13 @@ returns-in-Some-OfX g c =
       taken =
           plain_taken c.args.pages.now c.args.origin c.args.function (OfX c.in-Some-OfX.value)
           (machine_of c.args.machine.now) (machine_of c.of_x.new.machine)
-          (outcome_by c.is_done-in-Some-OfX.result c.is_done-in-Some-OfX.new.outcome)
+          (Ok c.of_x.result)
           (let row = c.work_of.ensures in rw (c.in-Some-OfX.is, c.in-Some-OfX.field-0-is) at row)
-          (rw c.is_done-in-Some-OfX.ensures (c.of_x.ensures.done 0 c.args.pages.now));
-      unchanged = rw c.is_done-in-Some-OfX.ensures tt;
+          (c.of_x.ensures.done 0 c.args.pages.now);
+      unchanged = tt;
       keeps = c.of_x.ensures.keeps;
       left = c.of_x.ensures.left;
     }
-
-pub is_done-requires : goal.is_done-requires
-is_done-requires g c = assumption
 
 pub move_stack-requires : goal.move_stack-requires
 move_stack-requires g c = assumption

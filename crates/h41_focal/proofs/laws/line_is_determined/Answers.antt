@@ -1,5 +1,5 @@
-use Rattle.h41_focal.proofs.OneOutcome.{entering_determined, failure_determined, passing_determined, step_determined, typed_determined}
-use Rattle.h41_focal.proofs.OneOutcome.{typed_failure_determined}
+use Rattle.h41_focal.proofs.Named.{same_function}
+use Rattle.h41_focal.proofs.OneOutcome.{line_determined, step_determined, typed_determined}
 use Rattle.h41_focal.proofs.laws.line_is_determined.Goals as goal
 
 pub returns-clause-step : goal.returns-clause-step
@@ -14,17 +14,11 @@ returns-clause-typed c =
     c.positions_are_read.ensures.read c.positions_are_read.ensures.start
     c.positions_are_read.ensures.local c.searches_are_determined.ensures.global
 
-pub returns-clause-failure : goal.returns-clause-failure
-returns-clause-failure c = failure_determined
-    c.positions_are_read.ensures.read
+pub returns-clause-line : goal.returns-clause-line
+returns-clause-line c =
+    line_determined c.values_are_determined.ensures
+    c.positions_are_read.ensures.read c.positions_are_read.ensures.start
+    c.positions_are_read.ensures.local c.searches_are_determined.ensures.global (same_function c.line_text_round_trip.ensures.one)
 
-pub returns-clause-typed_failure : goal.returns-clause-typed_failure
-returns-clause-typed_failure c = typed_failure_determined
-
-pub returns-clause-entering : goal.returns-clause-entering
-returns-clause-entering c = entering_determined
-    c.positions_are_read.ensures.read
-
-pub returns-clause-passing : goal.returns-clause-passing
-returns-clause-passing c = passing_determined
-    c.positions_are_read.ensures.read
+pub returns-clause-name : goal.returns-clause-name
+returns-clause-name c = same_function c.line_text_round_trip.ensures.one

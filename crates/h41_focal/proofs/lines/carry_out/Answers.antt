@@ -1,13 +1,19 @@
+use Rattle.std.proofs.Common.{Ok}
 use Rattle.h41_codes.specs.declared.line.Line.TheVariants as lines
 use Rattle.h41_rows.specs.Profile.{is_left_out}
+use Rattle.h41_focal.proofs.Begun.{same_machine}
 use Rattle.h41_focal.proofs.LinesTaken.{unsearched}
+use Rattle.h41_focal.proofs.OutsideCalls.{called_module, carries_whole}
+use Rattle.h41_positions.specs.LabelledMachine.{machine_of}
 use Rattle.h41_focal.proofs.lines.carry_out.Goals as goal
 
 pub returns-in-Null : goal.returns-in-Null
 returns-in-Null g c =
     rw c.in-Null.is
     (record {
-      taken = c.do_nothing.ensures.done 0 c.args.pages.now;
+      taken =
+          carries_whole c.args.pages.now c.args.origin lines.Null (machine_of c.args.machine.now) (machine_of c.do_nothing.new.machine)
+          (Ok c.do_nothing.result) (c.do_nothing.ensures.done 0 c.args.pages.now);
       unchanged = tt;
       kept = c.do_nothing.ensures.keeps.labels;
       mark = c.do_nothing.ensures.keeps.mark;
@@ -18,7 +24,10 @@ pub returns-in-LocalLabel : goal.returns-in-LocalLabel
 returns-in-LocalLabel g c =
     rw c.in-LocalLabel.is
     (record {
-      taken = c.be_silent.ensures.done 0 c.args.pages.now;
+      taken =
+          carries_whole c.args.pages.now c.args.origin (lines.LocalLabel c.in-LocalLabel.field-0)
+          (machine_of c.args.machine.now) (machine_of c.be_silent.new.machine)
+          (Ok c.be_silent.result) (c.be_silent.ensures.done 0 c.args.pages.now);
       unchanged = tt;
       kept = c.be_silent.ensures.keeps.labels;
       mark = c.be_silent.ensures.keeps.mark;
@@ -29,7 +38,10 @@ pub returns-in-GlobalLabel : goal.returns-in-GlobalLabel
 returns-in-GlobalLabel g c =
     rw c.in-GlobalLabel.is
     (record {
-      taken = c.be_silent-in-GlobalLabel.ensures.done 0 c.args.pages.now;
+      taken =
+          carries_whole c.args.pages.now c.args.origin (lines.GlobalLabel c.in-GlobalLabel.field-0 c.in-GlobalLabel.field-1 c.in-GlobalLabel.field-2)
+          (machine_of c.args.machine.now) (machine_of c.be_silent-in-GlobalLabel.new.machine)
+          (Ok c.be_silent-in-GlobalLabel.result) (c.be_silent-in-GlobalLabel.ensures.done 0 c.args.pages.now);
       unchanged = tt;
       kept = c.be_silent-in-GlobalLabel.ensures.keeps.labels;
       mark = c.be_silent-in-GlobalLabel.ensures.keeps.mark;
@@ -40,7 +52,10 @@ pub returns-in-Number : goal.returns-in-Number
 returns-in-Number g c =
     rw c.in-Number.is
     (record {
-      taken = c.number_line.ensures.done _ c.written.ensures 0 c.args.pages.now;
+      taken =
+          carries_whole c.args.pages.now c.args.origin (lines.Number c.in-Number.number)
+          (machine_of c.args.machine.now) (machine_of c.number_line.new.machine)
+          (Ok c.number_line.result) (c.number_line.ensures.done _ c.written.ensures 0 c.args.pages.now);
       unchanged = tt;
       kept = c.number_line.ensures.keeps.labels;
       mark = c.number_line.ensures.keeps.mark;
@@ -51,7 +66,7 @@ pub returns-in-Named : goal.returns-in-Named
 returns-in-Named g c =
     rw c.in-Named.is
     (record {
-      taken = c.named.ensures.taken c.args.pages.now;
+      taken = c.named.ensures.taken;
       unchanged = c.named.ensures.unchanged;
       kept = c.named.ensures.kept;
       mark = c.named.ensures.mark;
@@ -62,8 +77,11 @@ pub returns-in-Register : goal.returns-in-Register
 returns-in-Register g c =
     rw c.in-Register.is
     (record {
-      taken = c.short.ensures.taken c.args.pages.now;
-      unchanged = c.short.ensures.unchanged;
+      taken =
+          carries_whole c.args.pages.now c.args.origin (lines.Register c.in-Register.function c.in-Register.register)
+          (machine_of c.args.machine.now) (machine_of c.short.new.machine)
+          c.short.result (c.short.ensures.taken c.args.pages.now);
+      unchanged = same_machine c.args.machine.now c.short.new.machine c.short.result c.short.ensures.unchanged;
       kept = c.short.ensures.keeps.labels;
       mark = c.short.ensures.keeps.mark;
       left = c.short.ensures.left;
@@ -73,8 +91,11 @@ pub returns-in-Plain : goal.returns-in-Plain
 returns-in-Plain g c =
     rw c.in-Plain.is
     (record {
-      taken = c.plain.ensures.taken;
-      unchanged = c.plain.ensures.unchanged;
+      taken =
+          carries_whole c.args.pages.now c.args.origin (lines.Plain c.in-Plain.function)
+          (machine_of c.args.machine.now) (machine_of c.plain.new.machine)
+          c.plain.result (c.plain.ensures.taken);
+      unchanged = same_machine c.args.machine.now c.plain.new.machine c.plain.result c.plain.ensures.unchanged;
       kept = unsearched _ (is_left_out (lines.Plain c.in-Plain.function)) _ _ c.plain.ensures.keeps.labels;
       mark = c.plain.ensures.keeps.mark;
       left = c.plain.ensures.left;
@@ -84,13 +105,30 @@ pub returns-in-WithOperand : goal.returns-in-WithOperand
 returns-in-WithOperand g c =
     rw c.in-WithOperand.is
     (record {
-      taken = c.with_operand.ensures.taken;
-      unchanged = c.with_operand.ensures.unchanged;
+      taken =
+          carries_whole c.args.pages.now c.args.origin (lines.WithOperand c.in-WithOperand.function c.in-WithOperand.operand)
+          (machine_of c.args.machine.now) (machine_of c.with_operand.new.machine)
+          c.with_operand.result (c.with_operand.ensures.taken);
+      unchanged = same_machine c.args.machine.now c.with_operand.new.machine c.with_operand.result c.with_operand.ensures.unchanged;
       kept =
           unsearched _ (is_left_out (lines.WithOperand c.in-WithOperand.function c.in-WithOperand.operand))
           _ _ c.with_operand.ensures.keeps.labels;
       mark = c.with_operand.ensures.keeps.mark;
       left = c.with_operand.ensures.left;
+    })
+
+pub returns-in-Module : goal.returns-in-Module
+returns-in-Module g c =
+    let done = c.call_module.ensures.done in
+    rw c.in-Module.is
+    (record {
+      taken =
+          called_module c.args.pages.now c.args.origin c.in-Module.number c.in-Module.entry (machine_of c.args.machine.now)
+          (machine_of c.call_module.new.machine) c.call_module.result done;
+      unchanged = tt;
+      kept = c.call_module.ensures.keeps.labels;
+      mark = c.call_module.ensures.keeps.mark;
+      left = c.call_module.ensures.left;
     })
 
 pub returns-in-BranchIndirect : goal.returns-in-BranchIndirect
@@ -107,10 +145,13 @@ returns-in-BranchIndirect g c =
 pub returns-in-ShortGoTo : goal.returns-in-ShortGoTo
 returns-in-ShortGoTo g c =
     let taken = c.to_label.ensures.done 0 in
+    let done = rw (c.new.ensures, c.number.ensures.value) at taken in
     let kept = c.to_label.ensures.kept in
     rw c.in-ShortGoTo.is
     (record {
-      taken = rw (c.new.ensures, c.number.ensures.value) at taken;
+      taken =
+          carries_whole c.args.pages.now c.args.origin (lines.ShortGoTo c.in-ShortGoTo.label c.in-ShortGoTo.field-1)
+          (machine_of c.args.machine.now) (machine_of c.to_label.new.machine) (Ok c.to_label.result) done;
       unchanged = tt;
       kept = rw (c.new.ensures, c.number.ensures.value) at kept;
       mark = c.to_label.ensures.mark;
@@ -121,7 +162,10 @@ pub returns-in-End : goal.returns-in-End
 returns-in-End g c =
     rw c.in-End.is
     (record {
-      taken = c.go_back.ensures.done 0;
+      taken =
+          carries_whole c.args.pages.now c.args.origin (lines.End c.in-End.field-0 c.in-End.field-1)
+          (machine_of c.args.machine.now) (machine_of c.go_back.new.machine)
+          (Ok c.go_back.result) (c.go_back.ensures.done 0);
       unchanged = tt;
       kept = c.go_back.ensures.keeps.labels;
       mark = c.go_back.ensures.keeps.mark;
@@ -132,7 +176,10 @@ pub returns-in-FinalEnd : goal.returns-in-FinalEnd
 returns-in-FinalEnd g c =
     rw c.in-FinalEnd.is
     (record {
-      taken = c.go_back-in-FinalEnd.ensures.done 0;
+      taken =
+          carries_whole c.args.pages.now c.args.origin (lines.FinalEnd c.in-FinalEnd.field-0 c.in-FinalEnd.field-1)
+          (machine_of c.args.machine.now) (machine_of c.go_back-in-FinalEnd.new.machine)
+          (Ok c.go_back-in-FinalEnd.result) (c.go_back-in-FinalEnd.ensures.done 0);
       unchanged = tt;
       kept = c.go_back-in-FinalEnd.ensures.keeps.labels;
       mark = c.go_back-in-FinalEnd.ensures.keeps.mark;
@@ -143,7 +190,10 @@ pub returns-in-BranchTo : goal.returns-in-BranchTo
 returns-in-BranchTo g c =
     rw c.in-BranchTo.is
     (record {
-      taken = c.to_label-in-BranchTo.ensures.done 0;
+      taken =
+          carries_whole c.args.pages.now c.args.origin (lines.BranchTo c.in-BranchTo.branch c.in-BranchTo.field-1 c.in-BranchTo.field-2 c.in-BranchTo.label)
+          (machine_of c.args.machine.now) (machine_of c.to_label-in-BranchTo.new.machine)
+          (Ok c.to_label-in-BranchTo.result) (c.to_label-in-BranchTo.ensures.done 0);
       unchanged = tt;
       kept = c.to_label-in-BranchTo.ensures.kept;
       mark = c.to_label-in-BranchTo.ensures.mark;
@@ -154,7 +204,10 @@ pub returns-in-Text : goal.returns-in-Text
 returns-in-Text g c =
     rw c.in-Text.is
     (record {
-      taken = c.text_line.ensures.done 0 c.args.pages.now;
+      taken =
+          carries_whole c.args.pages.now c.args.origin (lines.Text c.in-Text.text)
+          (machine_of c.args.machine.now) (machine_of c.text_line.new.machine)
+          (Ok c.text_line.result) (c.text_line.ensures.done 0 c.args.pages.now);
       unchanged = tt;
       kept = c.text_line.ensures.keeps.labels;
       mark = c.text_line.ensures.keeps.mark;
@@ -163,6 +216,9 @@ returns-in-Text g c =
 
 pub be_silent-requires : goal.be_silent-requires
 be_silent-requires g c = assumption
+
+pub call_module-requires : goal.call_module-requires
+call_module-requires g c = assumption
 
 pub do_nothing-requires : goal.do_nothing-requires
 do_nothing-requires g c = assumption

@@ -1,13 +1,20 @@
+use Rattle.std.proofs.Common.{Ok}
 use Rattle.h41_codes.specs.declared.line.Line.TheVariants as lines
 use Rattle.h41_rows.specs.Profile.{is_left_out}
+use Rattle.h41_focal.proofs.Begun.{same_machine}
 use Rattle.h41_focal.proofs.LinesTaken.{unsearched}
+use Rattle.h41_focal.proofs.OutsideCalls.{called_module, carries_whole}
+use Rattle.h41_positions.specs.LabelledMachine.{machine_of}
 use Rattle.h41_focal.proofs.short_lines.carry_short.Goals as goal
 
 pub returns-in-LocalLabel : goal.returns-in-LocalLabel
 returns-in-LocalLabel g c =
-    rw (c.in-LocalLabel.is, c.is_done.ensures)
+    rw c.in-LocalLabel.is
     (record {
-      taken = c.be_silent.ensures.done 0 c.args.pages.now;
+      taken =
+          carries_whole c.args.pages.now c.args.origin (lines.LocalLabel c.in-LocalLabel.field-0)
+          (machine_of c.args.machine.now) (machine_of c.be_silent.new.machine)
+          (Ok c.be_silent.result) (c.be_silent.ensures.done 0 c.args.pages.now);
       unchanged = tt;
       kept = c.be_silent.ensures.keeps.labels;
       mark = c.be_silent.ensures.keeps.mark;
@@ -16,10 +23,13 @@ returns-in-LocalLabel g c =
 
 pub returns-in-Register : goal.returns-in-Register
 returns-in-Register g c =
-    rw (c.in-Register.is, c.is_done-in-Register.ensures)
+    rw c.in-Register.is
     (record {
-      taken = c.short.ensures.taken c.args.pages.now;
-      unchanged = c.short.ensures.unchanged;
+      taken =
+          carries_whole c.args.pages.now c.args.origin (lines.Register c.in-Register.function c.in-Register.register)
+          (machine_of c.args.machine.now) (machine_of c.short.new.machine)
+          c.short.result (c.short.ensures.taken c.args.pages.now);
+      unchanged = same_machine c.args.machine.now c.short.new.machine c.short.result c.short.ensures.unchanged;
       kept = c.short.ensures.keeps.labels;
       mark = c.short.ensures.keeps.mark;
       left = c.short.ensures.left;
@@ -29,8 +39,11 @@ pub returns-in-Plain : goal.returns-in-Plain
 returns-in-Plain g c =
     rw c.in-Plain.is
     (record {
-      taken = c.plain_at_once.ensures.taken;
-      unchanged = c.plain_at_once.ensures.unchanged;
+      taken =
+          carries_whole c.args.pages.now c.args.origin (lines.Plain c.in-Plain.function)
+          (machine_of c.args.machine.now) (machine_of c.plain_at_once.new.machine)
+          c.plain_at_once.result (c.plain_at_once.ensures.taken);
+      unchanged = same_machine c.args.machine.now c.plain_at_once.new.machine c.plain_at_once.result c.plain_at_once.ensures.unchanged;
       kept = unsearched _ (is_left_out (lines.Plain c.in-Plain.function)) _ _ c.plain_at_once.ensures.keeps.labels;
       mark = c.plain_at_once.ensures.keeps.mark;
       left = c.plain_at_once.ensures.left;
@@ -38,10 +51,13 @@ returns-in-Plain g c =
 
 pub returns-in-WithOperand : goal.returns-in-WithOperand
 returns-in-WithOperand g c =
-    rw (c.in-WithOperand.is, c.is_done-in-WithOperand.ensures)
+    rw c.in-WithOperand.is
     (record {
-      taken = c.with_operand.ensures.taken;
-      unchanged = c.with_operand.ensures.unchanged;
+      taken =
+          carries_whole c.args.pages.now c.args.origin (lines.WithOperand c.in-WithOperand.function c.in-WithOperand.operand)
+          (machine_of c.args.machine.now) (machine_of c.with_operand.new.machine)
+          c.with_operand.result (c.with_operand.ensures.taken);
+      unchanged = same_machine c.args.machine.now c.with_operand.new.machine c.with_operand.result c.with_operand.ensures.unchanged;
       kept =
           unsearched _ (is_left_out (lines.WithOperand c.in-WithOperand.function c.in-WithOperand.operand))
           _ _ c.with_operand.ensures.keeps.labels;
@@ -49,9 +65,23 @@ returns-in-WithOperand g c =
       left = c.with_operand.ensures.left;
     })
 
+pub returns-in-Module : goal.returns-in-Module
+returns-in-Module g c =
+    let done = c.call_module.ensures.done in
+    rw c.in-Module.is
+    (record {
+      taken =
+          called_module c.args.pages.now c.args.origin c.in-Module.number c.in-Module.entry (machine_of c.args.machine.now)
+          (machine_of c.call_module.new.machine) c.call_module.result done;
+      unchanged = tt;
+      kept = c.call_module.ensures.keeps.labels;
+      mark = c.call_module.ensures.keeps.mark;
+      left = c.call_module.ensures.left;
+    })
+
 pub returns-in-BranchIndirect : goal.returns-in-BranchIndirect
 returns-in-BranchIndirect g c =
-    rw (c.in-BranchIndirect.is, c.is_done-in-BranchIndirect.ensures)
+    rw c.in-BranchIndirect.is
     (record {
       taken = c.indirect.ensures.taken;
       unchanged = c.indirect.ensures.unchanged;
@@ -63,10 +93,13 @@ returns-in-BranchIndirect g c =
 pub returns-in-ShortGoTo : goal.returns-in-ShortGoTo
 returns-in-ShortGoTo g c =
     let taken = c.to_label.ensures.done 0 in
+    let done = rw (c.new-label.ensures, c.number.ensures.value) at taken in
     let kept = c.to_label.ensures.kept in
-    rw (c.in-ShortGoTo.is, c.is_done-in-ShortGoTo.ensures)
+    rw c.in-ShortGoTo.is
     (record {
-      taken = rw (c.new-label.ensures, c.number.ensures.value) at taken;
+      taken =
+          carries_whole c.args.pages.now c.args.origin (lines.ShortGoTo c.in-ShortGoTo.label c.in-ShortGoTo.field-1)
+          (machine_of c.args.machine.now) (machine_of c.to_label.new.machine) (Ok c.to_label.result) done;
       unchanged = tt;
       kept = rw (c.new-label.ensures, c.number.ensures.value) at kept;
       mark = c.to_label.ensures.mark;
@@ -75,9 +108,12 @@ returns-in-ShortGoTo g c =
 
 pub returns-in-BranchTo : goal.returns-in-BranchTo
 returns-in-BranchTo g c =
-    rw (c.in-BranchTo.is, c.is_done-in-BranchTo.ensures)
+    rw c.in-BranchTo.is
     (record {
-      taken = c.to_label-in-BranchTo.ensures.done 0;
+      taken =
+          carries_whole c.args.pages.now c.args.origin (lines.BranchTo c.in-BranchTo.branch c.in-BranchTo.field-1 c.in-BranchTo.field-2 c.in-BranchTo.label)
+          (machine_of c.args.machine.now) (machine_of c.to_label-in-BranchTo.new.machine)
+          (Ok c.to_label-in-BranchTo.result) (c.to_label-in-BranchTo.ensures.done 0);
       unchanged = tt;
       kept = c.to_label-in-BranchTo.ensures.kept;
       mark = c.to_label-in-BranchTo.ensures.mark;
@@ -87,11 +123,11 @@ returns-in-BranchTo g c =
 pub be_silent-requires : goal.be_silent-requires
 be_silent-requires g c = assumption
 
+pub call_module-requires : goal.call_module-requires
+call_module-requires g c = assumption
+
 pub indirect-requires : goal.indirect-requires
 indirect-requires g c = assumption
-
-pub is_done-requires : goal.is_done-requires
-is_done-requires g c = assumption
 
 pub number-requires : goal.number-requires
 number-requires g c = assumption

@@ -1,5 +1,5 @@
 -- What has a name, by its text.
-use Rattle.std.proofs.Common.{◌≡◌, ℕ, List, Option, Some, None, Result, Ok, Err, refl}
+use Rattle.std.proofs.Common.{◌≡◌, ℕ, List, Option, Some, None, Result, Ok, Err, refl, ap}
 use Rattle.std.specs.Prelude.{◌↔◌}
 use Rattle.h41_codes.specs.declared.functions.Function.{Function}
 use Rattle.h41_codes.specs.declared.line.Line.{Line}
@@ -7,8 +7,10 @@ use Rattle.h41_codes.specs.declared.line.Line.TheVariants.{Null, Plain}
 use Rattle.h41_text.specs.LineReading.{IsTextOf}
 use Rattle.h41_text.specs.Names.{function_name}
 use Rattle.h41_text.specs.declared.faults.BadText.{BadText}
-use Rattle.h41_xrom.specs.private.PrivateCalls.{IsFunction}
-use Rattle.h41_xrom.specs.Lines.{IsNamed}
+use Rattle.h41_focal.specs.LineLaws.{NameIsDetermined}
+use Rattle.h41_focal.specs.OutsideCalls.{IsNamed}
+use Rattle.h41_focal.specs.private.Carrying.{IsFunction}
+use Rattle.h41_text.specs.TextLaws.{OneLineOfText}
 
 not_null : (function : Function) → Plain function ≡ Null → ⊥
 not_null function is = cc
@@ -30,3 +32,14 @@ pub named_none : (name : List ℕ) (fault : BadText) (read : Result Line BadText
     → ((of : Line) → (read ≡ Ok of) ↔ IsTextOf name of) → read ≡ Err fault → IsNamed name None
 named_none name fault read means is = λ function same.
     let own : read ≡ Ok (Plain function) = (means (Plain function)).1 (text_of name function same) in cc
+
+-- A name names at most one function.
+same_function_by : (a b : Function) → Plain a ≡ Plain b → a ≡ b
+same_function_by a b is = cc
+
+pub same_function : OneLineOfText → NameIsDetermined
+same_function one_line name (Some a) (Some b) p q =
+    ap Some (same_function_by a b (one_line name (Plain a) (Plain b) (text_of name a p) (text_of name b q)))
+same_function one_line name (Some a) None p q = absurd (q a p)
+same_function one_line name None (Some b) p q = absurd (p b q)
+same_function one_line name None None p q = refl

@@ -1,5 +1,5 @@
-use Rattle.h41_xrom.proofs.Named.{named_by, named_none}
-use Rattle.h41_xrom.proofs.lines.function_named.Goals as goal
+use Rattle.h41_focal.proofs.Named.{named_by, named_none}
+use Rattle.h41_focal.proofs.calls.function_named.Goals as goal
 
 pub returns-in-Ok : goal.returns-in-Ok
 returns-in-Ok c =

@@ -17,7 +17,7 @@ use Rattle.h41_xrom.specs.KeyActions.{Presses}
 use Rattle.h41_xrom.specs.LabelledCalculator.{LabelledCalculator}
 use Rattle.h41_xrom.specs.declared.calculator.Mode.{Mode}
 use Rattle.h41_xrom.specs.declared.calculator.Mode.TheVariants as modes
-use Rattle.h41_xrom.specs.declared.lines.LineSource.TheVariants.{Program}
+use Rattle.h41_focal.specs.OutsideCalls.{Program}
 use Rattle.h41_xrom.specs.declared.refusal.CalculatorRefusal.{CalculatorRefusal}
 
 -- While no function runs, a step is a line.

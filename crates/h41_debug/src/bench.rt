@@ -16,7 +16,7 @@ ghost use Rattle.h41_xrom.specs.Calculator.{machine_of, mode_after_word};
 ghost use Rattle.h41_xrom.specs.KeptLabels.{KeepsAfterLine, KeepsAfterStep};
 ghost use Rattle.h41_xrom.specs.LabelledCalculator.{no_searches};
 ghost use Rattle.h41_xrom.specs.declared.calculator.Mode.TheVariants.{Micro};
-ghost use Rattle.h41_xrom.specs.declared.lines.LineSource.TheVariants.{Program};
+ghost use Rattle.h41_focal.specs.OutsideCalls.{Program};
 
 use crate::run::Stop;
 use h41_breakpoints::{BreakFull, Breakpoints, Location, NoBreak};

@@ -36,10 +36,11 @@ pub data Answer : Type 0 where
   -- the line has an error: the display shows it, and the program stops
   Failed : LineFault → Answer
 
--- What the line calls is outside program memory: a function of a module, or what has a name.
+-- The line calls what is outside program memory: a function of a module, or what has a name.
 abbrev pub calls_outside : Answer → Bool
 calls_outside (Calls number entry) = true
 calls_outside (Seeks name) = true
+calls_outside (Begins address) = true
 calls_outside answer = false
 
 -- The answer of an outcome. Texts are made from memory as the line left it.

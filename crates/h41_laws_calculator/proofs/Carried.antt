@@ -2,27 +2,26 @@
 use Rattle.std.proofs.Common.{◌≡◌, ℕ, Bool, true, false, List, Option, Some, None, Result, Ok, Err, MatchBool, inl, inr, refl}
 use Rattle.h41_codes.specs.declared.functions.Function.{Function}
 use Rattle.h41_codes.specs.declared.line.Line.{Line}
-use Rattle.h41_codes.specs.declared.line.Line.TheVariants.{Module}
+use Rattle.h41_codes.specs.declared.line.Line.TheVariants.{Module, Plain}
 use Rattle.h41_focal.specs.Destinations.{Destination, Arrives, Halts, HasNoLabel, HasNoLine, Manner, Runs, Seeks, Stays, Stepped}
 use Rattle.h41_focal.specs.Destinations.{Tells, Typed}
-use Rattle.h41_focal.specs.LineLaws.{EnteringIsDetermined, FailureIsDetermined, PassingIsDetermined, StepIsDetermined}
-use Rattle.h41_focal.specs.LineLaws.{TypedFailureIsDetermined}
-use Rattle.h41_focal.specs.LineLaws.{TypedIsDetermined}
-use Rattle.h41_focal.specs.LineStep.{Applies, AppliesTo, AppliesWith, CarriesOut, ComputesIn, Ends, EndsInError, SteppedLineFails}
-use Rattle.h41_focal.specs.LineStep.{TypedLineFails}
-use Rattle.h41_focal.specs.LineStep.{EntersLine, EntersWith, FailsIfRead, PassesLine, PassesWith, Stands, StandsAt, StepsAs}
+use Rattle.h41_focal.specs.LineLaws.{LineIsDetermined, StepIsDetermined, TypedIsDetermined}
+use Rattle.h41_focal.specs.LineStep.{Applies, AppliesTo, AppliesWith, CarriesOut, ComputesIn, Ends, Left, Stands, StandsAt, StepsAs}
+use Rattle.h41_focal.specs.OutsideCalls as sources
+use Rattle.h41_focal.specs.OutsideCalls.{CallsName, CarriesLine, CarriesNamed, CarriesStanding, CarriesWhole, GoesOn, GoesOnFrom}
+use Rattle.h41_focal.specs.OutsideCalls.{LineSource}
 use Rattle.h41_positions.specs.FocalState.{Machine}
 use Rattle.h41_focal.specs.LineStep.{StepsLine, TakesLine}
-use Rattle.h41_focal.specs.LineStep.{TypesLine, Works, answer_of_showing, left_by_fault, line_as, named_by, with_line_passed}
-use Rattle.h41_focal.specs.LineStep.{with_program_called, with_row}
+use Rattle.h41_focal.specs.LineStep.{TypesLine, Works, answer_of_showing, left_by_fault, named_by, with_row}
 use Rattle.h41_focal.specs.Outcomes.{Answer}
+use Rattle.h41_focal.specs.Outcomes as answers
+use Rattle.h41_pages.specs.FunctionTables.{function_of_name}
 use Rattle.h41_focal.specs.declared.refusal.FocalRefusal.{FocalRefusal}
 use Rattle.h41_focal.specs.declared.refusal.FocalRefusal.TheVariants.{BrokenProgram, MemoryLost, NotInProfile}
 use Rattle.h41_positions.specs.PositionLaws.{LinesHaveNext}
 use Rattle.h41_positions.specs.Positions.{LineAt, LocalFrom, StartOf}
 use Rattle.h41_positions.specs.declared.position.PlacedLine.{PlacedLine}
 use Rattle.h41_positions.specs.declared.position.Position.{Position}
-use Rattle.h41_positions.specs.declared.position.Position.TheVariants.{Page}
 use Rattle.h41_program.specs.declared.refusal.ProgramRefusal.{ProgramRefusal}
 use Rattle.h41_program.specs.declared.refusal.ProgramRefusal.TheVariants as refusals
 use Rattle.h41_ram.specs.RegisterMap.{RegisterMap, is_sound, zeros}
@@ -37,8 +36,8 @@ use Rattle.h41_rows.specs.declared.fault.LineFault.TheVariants.{AlphaData, Nonex
 use Rattle.h41_laws_words.proofs.Answering.{Has}
 use Rattle.h41_laws_calculator.specs.ProgramAnswers.{MemoryHasOneAnswer, PositionHasOne, PositionHasOneEach}
 use Rattle.h41_laws_calculator.specs.LineValues.{ValueHasOneRegister}
-use Rattle.h41_laws_calculator.specs.LineOutcomes.{EnteringHasOneOutcome, FailureHasOneOutcome, PassingHasOneOutcome, StepHasOneOutcome}
-use Rattle.h41_laws_calculator.specs.LineOutcomes.{TypedFailureHasOneOutcome, TypedHasOneOutcome}
+use Rattle.h41_laws_calculator.specs.LineEnds.{LineHasOneEnd, NameHasOneFunction}
+use Rattle.h41_laws_calculator.specs.LineOutcomes.{StepHasOneOutcome, TypedHasOneOutcome}
 use Rattle.h41_laws_calculator.proofs.Leads.{NextOrNone, goes}
 use Rattle.h41_pages.specs.PageMap.{PageMap}
 
@@ -132,41 +131,21 @@ module _ (values : ValueHasOneRegister) (next_or_none : NextOrNone) (onward : Li
       let done = each standing.answer in
       record { answer = done.answer; right = (standing.answer, standing.right, done.right) }
 
-  steps_as : (pages : PageMap) (function : Option Function) (machine : Machine) (standing : Result (Line × Position) FocalRefusal)
-      → Has (StepsAs pages function machine standing)
-  steps_as pages function machine (Ok (line, next)) = takes pages (Stepped next) (line_as function line) machine
-  steps_as pages function machine (Err refusal) = alone (Err refusal)
+  steps_as : (pages : PageMap) (machine : Machine) (standing : Result (Line × Position) FocalRefusal)
+      → Has (StepsAs pages machine standing)
+  steps_as pages machine (Ok (line, next)) = takes pages (Stepped next) line machine
+  steps_as pages machine (Err refusal) = alone (Err refusal)
 
-  steps : (pages : PageMap) (function : Option Function) (machine : Machine) → Has (StepsLine pages function machine)
-  steps pages function machine = by_standing pages (StepsAs pages function machine) (steps_as pages function machine) machine
-
-  fails_with : (fault : LineFault) (machine : Machine) (standing : Result (Line × Position) FocalRefusal)
-      → Has (FailsIfRead fault machine standing)
-  fails_with fault machine (Ok (line, next)) = alone (Ok (left_by_fault (Stepped next) machine fault))
-  fails_with fault machine (Err refusal) = alone (Err refusal)
-
-  fails_line : (pages : PageMap) (fault : LineFault) (machine : Machine) → Has (SteppedLineFails pages fault machine)
-  fails_line pages fault machine = by_standing pages (FailsIfRead fault machine) (fails_with fault machine) machine
-
-  fails_typed : (fault : LineFault) (machine : Machine) → Has (TypedLineFails fault machine)
-  fails_typed fault machine =
-      where_true (is_sound machine.memory) (EndsInError Typed machine fault) (Err MemoryLost)
-      (alone (Ok (left_by_fault Typed machine fault)))
-
-  passes_with : (machine : Machine) (standing : Result (Line × Position) FocalRefusal) → Has (PassesWith machine standing)
-  passes_with machine (Ok (line, next)) = alone (Ok (with_line_passed line next machine))
-  passes_with machine (Err refusal) = alone (Err refusal)
-
-  passes_line : (pages : PageMap) (machine : Machine) → Has (PassesLine pages machine)
-  passes_line pages machine = by_standing pages (PassesWith machine) (passes_with machine) machine
+  steps : (pages : PageMap) (machine : Machine) → Has (StepsLine pages machine)
+  steps pages machine = by_standing pages (StepsAs pages machine) (steps_as pages machine) machine
 
   pub one_step : StepIsDetermined → StepHasOneOutcome
-  one_step determined pages function machine =
-      let found = steps pages function machine in
+  one_step determined pages machine =
+      let found = steps pages machine in
       record {
         answer = found.answer;
         right = found.right;
-        only = λ other again. determined pages function machine other found.answer again found.right;
+        only = λ other again. determined pages machine other found.answer again found.right;
       }
 
   pub one_typed : TypedIsDetermined → TypedHasOneOutcome
@@ -178,46 +157,55 @@ module _ (values : ValueHasOneRegister) (next_or_none : NextOrNone) (onward : Li
         only = λ other again. determined pages line machine other found.answer again found.right;
       }
 
-  pub one_failure : FailureIsDetermined → FailureHasOneOutcome
-  one_failure determined pages fault machine =
-      let found = fails_line pages fault machine in
-      record {
-        answer = found.answer;
-        right = found.right;
-        only = λ other again. determined pages fault machine other found.answer again found.right;
-      }
+  -- What a line calls outside program memory, given that a name names one function, or none.
+  module _ (functions : NameHasOneFunction) where
+    carries_named : (pages : PageMap) (how : Manner) (function : Option Function) (machine : Machine)
+        → Has (CarriesNamed pages how function machine)
+    carries_named pages how (Some function) machine = takes pages how (Plain function) machine
+    carries_named pages how None machine = alone (Ok (left_by_fault how machine Nonexistent))
 
-  pub one_typed_failure : TypedFailureIsDetermined → TypedFailureHasOneOutcome
-  one_typed_failure determined fault machine =
-      let found = fails_typed fault machine in
-      record {
-        answer = found.answer;
-        right = found.right;
-        only = λ other again. determined fault machine other found.answer again found.right;
-      }
+    calls_name : (pages : PageMap) (how : Manner) (numbers : Option (ℕ × ℕ)) (name : List ℕ) (machine : Machine)
+        → Has (CallsName pages how numbers name machine)
+    calls_name pages how (Some numbers) name machine = alone _
+    calls_name pages how None name machine =
+        let function = functions name in
+        let carried = carries_named pages how function.answer machine in
+        record { answer = carried.answer; right = (function.answer, function.right, carried.right) }
 
-  pub one_passing : PassingIsDetermined → PassingHasOneOutcome
-  one_passing determined pages machine =
-      let found = passes_line pages machine in
-      record {
-        answer = found.answer;
-        right = found.right;
-        only = λ other again. determined pages machine other found.answer again found.right;
-      }
+    goes_on : (pages : PageMap) (how : Manner) (machine : Machine) (left : Left) (answer : Answer)
+        → Has (GoesOn pages how machine left answer)
+    goes_on pages how machine left (answers.Calls number entry) = alone _
+    goes_on pages how machine left (answers.Seeks name) = calls_name pages how (function_of_name pages name) name machine
+    goes_on pages how machine left answer = alone (Ok left)
 
-  enters_with : (address : ℕ) (machine : Machine) (standing : Result (Line × Position) FocalRefusal)
-      → Has (EntersWith address machine standing)
-  enters_with address machine (Ok (line, next)) = alone (Ok (with_program_called line next (Page address) machine))
-  enters_with address machine (Err refusal) = alone (Err refusal)
+    goes_on_from : (pages : PageMap) (how : Manner) (machine : Machine) (own : Result Left FocalRefusal)
+        → Has (GoesOnFrom pages how machine own)
+    goes_on_from pages how machine (Ok left) = goes_on pages how machine left left.answer
+    goes_on_from pages how machine (Err refusal) = alone (Err refusal)
 
-  enters_line : (pages : PageMap) (address : ℕ) (machine : Machine) → Has (EntersLine pages address machine)
-  enters_line pages address machine = by_standing pages (EntersWith address machine) (enters_with address machine) machine
+    carries_whole : (pages : PageMap) (how : Manner) (line : Line) (machine : Machine) → Has (CarriesWhole pages how line machine)
+    carries_whole pages how line machine =
+        let own = takes pages how line machine in
+        let carried = goes_on_from pages how machine own.answer in
+        record { answer = carried.answer; right = (own.answer, own.right, carried.right) }
 
-  pub one_entering : EnteringIsDetermined → EnteringHasOneOutcome
-  one_entering determined pages address machine =
-      let found = enters_line pages address machine in
-      record {
-        answer = found.answer;
-        right = found.right;
-        only = λ other again. determined pages address machine other found.answer again found.right;
-      }
+    carries_standing : (pages : PageMap) (machine : Machine) (standing : Result (Line × Position) FocalRefusal)
+        → Has (CarriesStanding pages machine standing)
+    carries_standing pages machine (Ok (line, next)) = carries_whole pages (Stepped next) line machine
+    carries_standing pages machine (Err refusal) = alone (Err refusal)
+
+    carries_line : (source : LineSource) (pages : PageMap) (machine : Machine) → Has (CarriesLine source pages machine)
+    carries_line sources.Program pages machine =
+        by_standing pages (CarriesStanding pages machine) (carries_standing pages machine) machine
+    carries_line (sources.Keys line) pages machine =
+        where_true (is_sound machine.memory) (CarriesWhole pages Typed line machine) (Err MemoryLost)
+        (carries_whole pages Typed line machine)
+
+    pub one_end : LineIsDetermined → LineHasOneEnd
+    one_end determined source pages machine =
+        let found = carries_line source pages machine in
+        record {
+          answer = found.answer;
+          right = found.right;
+          only = λ other again. determined source pages machine other found.answer again found.right;
+        }

@@ -39,17 +39,18 @@ use Rattle.h41_ram.specs.NamedFlags.{range_ignore}
 use Rattle.h41_ram.specs.RegisterMap.{RegisterMap, flag_of, is_sound}
 use Rattle.h41_rows.specs.Values.{Computes, Kept, Written, sign_of_value}
 use Rattle.h41_rows.specs.declared.fault.LineFault.{LineFault}
+use Rattle.h41_focal.specs.LineStep.{Left, left_done}
 use Rattle.h41_xrom.specs.Calculator.{CalculatorState, is_idle, machine_of}
 use Rattle.h41_xrom.specs.CalculatorLaws.{KeyIsDetermined}
 use Rattle.h41_xrom.specs.KeyActions.{Acts, BeginsNumber, Carries, ChangesNumber, Edits, HasFlags, IsPlace, IsStoredAs}
-use Rattle.h41_xrom.specs.KeyActions.{KeyMakes, KeyOutcome, Leaves, Presses, StoredFunction, StoredIfNoLabel, StoredName}
+use Rattle.h41_xrom.specs.KeyActions.{KeyMakes, Presses, StoredFunction, StoredIfNoLabel, StoredName}
 use Rattle.h41_xrom.specs.KeyActions.{StoresLine, activity_of, after_outcome, edit_effect, flags_at, is_final, line_effect}
 use Rattle.h41_xrom.specs.KeyActions.{press_of, puts_end, with_key_accepted, with_number_changed, with_number_started}
 use Rattle.h41_xrom.specs.declared.calculator.Caller.{Caller}
 use Rattle.h41_xrom.specs.declared.calculator.Mode.{Mode}
 use Rattle.h41_xrom.specs.declared.calculator.Mode.TheVariants as modes
-use Rattle.h41_xrom.specs.declared.lines.LineSource.{LineSource}
-use Rattle.h41_xrom.specs.declared.lines.LineSource.TheVariants as sources
+use Rattle.h41_focal.specs.OutsideCalls.{LineSource}
+use Rattle.h41_focal.specs.OutsideCalls as sources
 use Rattle.h41_xrom.specs.declared.refusal.CalculatorRefusal.{CalculatorRefusal}
 use Rattle.h41_xrom.specs.declared.refusal.CalculatorRefusal.TheVariants.{KeyNotHeld, MemoryLost}
 use Rattle.h41_laws_words.specs.HasOne.{HasOne}
@@ -65,7 +66,7 @@ use Rattle.h41_laws_calculator.proofs.Numbered.{are_numbers}
 
 -- The result of an action.
 abbrev Made : Type 0
-Made = Result KeyOutcome CalculatorRefusal
+Made = Result Left CalculatorRefusal
 
 edits : (Edit : Machine → Result Machine ProgramRefusal → Type 0) (machine : Machine) → Has (Edit machine) → Has (Edits Edit machine)
 edits Edit machine edited = record { answer = edit_effect edited.answer; right = (edited.answer, edited.right, refl) }
@@ -99,13 +100,13 @@ module _ (ends : LineHasOneEnd) (names : NameHasOneFunction) (labels : MemoryHas
   begins text machine =
       let found = values (Written text) machine.memory 0 in
       let of = register_of text machine.memory found.answer found.right in
-      record { answer = Ok (Leaves (with_number_started machine of.0)); right = (of.0, of.1, refl) }
+      record { answer = Ok (left_done (with_number_started machine of.0)); right = (of.0, of.1, refl) }
 
   changes : (text : List Character) (machine : Machine) → Has (ChangesNumber text machine)
   changes text machine =
       let found = values (Written text) machine.memory 0 in
       let of = register_of text machine.memory found.answer found.right in
-      record { answer = Ok (Leaves (with_number_changed machine of.0)); right = (of.0, of.1, refl) }
+      record { answer = Ok (left_done (with_number_changed machine of.0)); right = (of.0, of.1, refl) }
 
   -- The line that is stored, which is one that programs can contain.
   abbrev Stored : (Line → Type 0) → Type 0

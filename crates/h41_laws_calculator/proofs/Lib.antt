@@ -11,7 +11,6 @@ pub mod Carried
 -- calculator
 pub mod Chosen
 pub mod Named
-pub mod Ended
 pub mod Moved
 pub mod Inserted
 pub mod Stepping

@@ -9,11 +9,8 @@ use Rattle.h41_codes.specs.declared.functions.Function.TheVariants.{Add}
 use Rattle.h41_codes.specs.Codes.{function_code}
 use Rattle.h41_codes.specs.Functions.{functions}
 use Rattle.h41_text.specs.Names.{function_name}
-use Rattle.h41_text.specs.TextLaws.{OneLineOfText}
-use Rattle.h41_xrom.specs.Lines.{IsNamed}
-use Rattle.h41_focal.specs.LineLaws.{EnteringIsDetermined, FailureIsDetermined, PassingIsDetermined, StepIsDetermined}
-use Rattle.h41_focal.specs.LineLaws.{TypedIsDetermined}
-use Rattle.h41_xrom.proofs.StepLaws.{same_function}
+use Rattle.h41_focal.specs.LineLaws.{NameIsDetermined}
+use Rattle.h41_focal.specs.OutsideCalls.{IsNamed}
 use Rattle.h41_laws_words.proofs.Answering.{Has}
 use Rattle.h41_laws_calculator.specs.LineEnds.{NameHasOneFunction}
 
@@ -58,13 +55,7 @@ module _ (name : List ℕ) where
     | inr none ↦ record { answer = None; right = λ function. of_all IsNot function none }
   ]
 
-pub one_function : StepIsDetermined → TypedIsDetermined → FailureIsDetermined → PassingIsDetermined → EnteringIsDetermined → OneLineOfText
-    → NameHasOneFunction
-one_function same_step same_typing same_failure same_passing same_entering one_line name =
+pub one_function : NameIsDetermined → NameHasOneFunction
+one_function same_function name =
     let found = named name in
-    record {
-      answer = found.answer;
-      right = found.right;
-      only = λ other again.
-          same_function same_step same_typing same_failure same_passing same_entering one_line name other found.answer again found.right;
-    }
+    record { answer = found.answer; right = found.right; only = λ other again. same_function name other found.answer again found.right }

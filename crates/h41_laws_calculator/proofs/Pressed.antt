@@ -13,6 +13,7 @@ use Rattle.h41_digits.specs.Register.{IsRegister}
 use Rattle.h41_editor.specs.Changes.{Deletes, Inserts, Replaces}
 use Rattle.h41_editor.specs.Moves.{GoesToEnd, ShowsBefore, ShowsNext}
 use Rattle.h41_positions.specs.FocalState.{Machine}
+use Rattle.h41_focal.specs.LineStep.{Left}
 use Rattle.h41_focal.specs.declared.refusal.FocalRefusal.{FocalRefusal}
 use Rattle.h41_keys.specs.Keyboard.{code_of}
 use Rattle.h41_keys.specs.declared.action.Action.{Action}
@@ -33,14 +34,13 @@ use Rattle.h41_rows.specs.Rows.{coming_in, compute}
 use Rattle.h41_rows.specs.Values.{Written}
 use Rattle.h41_xrom.specs.Calculator.{CalculatorState, machine_of}
 use Rattle.h41_xrom.specs.KeyActions.{Acts, BeginsNumber, Carries, ChangesNumber, Edits, IsStoredAs, KeyMakes}
-use Rattle.h41_xrom.specs.KeyActions.{KeyOutcome, Leaves, LineEnds, Starts, Stops, StoredFunction, StoredIfNoLabel, StoredName}
+use Rattle.h41_xrom.specs.KeyActions.{StoredFunction, StoredIfNoLabel, StoredName}
 use Rattle.h41_xrom.specs.KeyActions.{StoresLine, activity_of, after_outcome, edit_effect, key_refusal}
 use Rattle.h41_xrom.specs.KeyActions.{line_effect}
 use Rattle.h41_xrom.specs.KeyActions.{press_of, taken_in, with_key_accepted, with_letters}
 use Rattle.h41_xrom.specs.KeyActions.{with_text}
-use Rattle.h41_xrom.specs.Lines.{Ended}
-use Rattle.h41_xrom.specs.declared.lines.LineSource.{LineSource}
-use Rattle.h41_xrom.specs.declared.lines.LineSource.TheVariants as sources
+use Rattle.h41_focal.specs.OutsideCalls.{LineSource}
+use Rattle.h41_focal.specs.OutsideCalls as sources
 use Rattle.h41_xrom.specs.declared.refusal.CalculatorRefusal.{CalculatorRefusal}
 use Rattle.h41_laws_calculator.proofs.Numbered.{are_numbers}
 use Rattle.h41_laws_calculator.specs.Keys.{KeyHasOneOutcome, PressStoresInner, StoresInner}
@@ -49,24 +49,21 @@ use Rattle.h41_laws_calculator.specs.WholeInputs.{IsWholeAction, IsWholeInput, I
 use Rattle.h41_laws_calculator.specs.WholeMemory.{AreBytes, IsWholeMemory}
 use Rattle.h41_laws_calculator.proofs.Bytes.{IsByte, alone, last_bytes}
 use Rattle.h41_laws_calculator.proofs.Edited.{MachineKept, before_kept, deleted_kept, end_kept, inserted_kept, next_kept, replaced_kept}
-use Rattle.h41_laws_calculator.proofs.WholeLines.{EndsWhole, IsWholeSource, computed_by, line_leaves, matched}
+use Rattle.h41_laws_calculator.proofs.WholeLines.{IsWholeSource, Leaves, computed_by, line_leaves, matched}
 use Rattle.h41_laws_calculator.proofs.WholeMemories.{all_taken, alpha_of_bytes, alpha_written, flagged}
 use Rattle.h41_laws_calculator.proofs.WholeStates.{MadeWhole, becomes_whole, by_refusal, line_left, machine_set, memory_of}
 
 -- The result of an action, if there is one.
 abbrev Made : Type 0
-Made = Result KeyOutcome CalculatorRefusal
+Made = Result Left CalculatorRefusal
 
 abbrev LeavesWhole : Made → Type 0
-LeavesWhole (Ok (Leaves machine)) = IsWholeMemory machine.memory
-LeavesWhole (Ok (LineEnds ended)) = EndsWhole (Ok ended)
-LeavesWhole (Ok (Stops machine)) = IsWholeMemory machine.memory
-LeavesWhole (Ok (Starts machine)) = IsWholeMemory machine.memory
+LeavesWhole (Ok left) = IsWholeMemory left.machine.memory
 LeavesWhole (Err refusal) = Unit {0}
 
 -- Lines.
-line_made : (ended : Result Ended FocalRefusal) → EndsWhole ended → LeavesWhole (line_effect ended)
-line_made (Ok ended) whole = whole
+line_made : (carried : Result Left FocalRefusal) → Leaves carried → LeavesWhole (line_effect carried)
+line_made (Ok left) whole = whole
 line_made (Err refusal) whole = tt
 
 carried : (source : LineSource) (pages : PageMap) (machine : Machine) (effect : Made) → IsWholeSource source → IsWholeMemory machine.memory
@@ -206,18 +203,7 @@ told key input s whole is = record {
 }
 
 acted : (s : CalculatorState) (effect : Made) → IsWholeCalculator s → LeavesWhole effect → MadeWhole (after_outcome s effect)
-acted s (Ok (Leaves machine)) whole is = machine_set machine s whole is
-acted s (Ok (LineEnds ended)) whole is = line_left s ended whole is
-acted s (Ok (Stops machine)) whole is = record {
-  nut = record { processor = whole.nut.processor; memory = is.holds; pages = whole.nut.pages; key = whole.nut.key };
-  most = is.most;
-  input = whole.input;
-}
-acted s (Ok (Starts machine)) whole is = record {
-  nut = record { processor = whole.nut.processor; memory = is.holds; pages = whole.nut.pages; key = whole.nut.key };
-  most = is.most;
-  input = whole.input;
-}
+acted s (Ok left) whole is = line_left s left whole is
 acted s (Err refusal) whole is = tt
 
 makes : (s : CalculatorState) (key : Key) (press : Option Pressed) (made : Result CalculatorState CalculatorRefusal)

@@ -6,12 +6,12 @@ use Rattle.h41_focal.specs.declared.refusal.FocalRefusal.{FocalRefusal}
 use Rattle.h41_nut.specs.WordStep.{refused}
 use Rattle.h41_nut.specs.declared.refusal.WordRefusal.{WordRefusal}
 use Rattle.h41_xrom.specs.Calculator.{CalculatorState, CarriesHere, RefusesLine, RefusesStep, RefusesStepIn, Step, StepIn, StepsByLine}
-use Rattle.h41_xrom.specs.Calculator.{after_line, after_word, machine_of, not_typing}
+use Rattle.h41_xrom.specs.Calculator.{after_line, after_word, machine_of, not_typing, of_line}
 use Rattle.h41_xrom.specs.CalculatorLaws.{StepIsDetermined, StepRefusalIsDetermined}
-use Rattle.h41_xrom.specs.Lines.{Ended, of_line}
+use Rattle.h41_focal.specs.LineStep as lines
 use Rattle.h41_xrom.specs.declared.calculator.Mode.{Mode}
 use Rattle.h41_xrom.specs.declared.calculator.Mode.TheVariants as modes
-use Rattle.h41_xrom.specs.declared.lines.LineSource.TheVariants as sources
+use Rattle.h41_focal.specs.OutsideCalls as sources
 use Rattle.h41_xrom.specs.declared.refusal.CalculatorRefusal.{CalculatorRefusal}
 use Rattle.h41_xrom.specs.declared.refusal.CalculatorRefusal.TheVariants.{Word}
 use Rattle.h41_laws_words.specs.HasOne.{HasOne}
@@ -60,7 +60,7 @@ module _ (ends : LineHasOneEnd) where
       record { answer = found.answer; right = found.right; only = λ other again. determined s other found.answer again found.right }
 
   -- A line that is not refused has an end.
-  line_behind : (s : CalculatorState) (end : Result Ended FocalRefusal) → CarriesHere sources.Program s end
+  line_behind : (s : CalculatorState) (end : Result lines.Left FocalRefusal) → CarriesHere sources.Program s end
       → None ≡ option_map of_line (result_err end) → Has (StepsByLine s)
   line_behind s (Ok end) carries none = record { answer = after_line (not_typing s) end; right = (end, carries, refl) }
   line_behind s (Err why) carries none = absurd (not_both (of_line why) none)

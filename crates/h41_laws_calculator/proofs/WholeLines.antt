@@ -4,6 +4,7 @@ use Rattle.h41_codes.specs.ByteGrammar.{IsLine}
 use Rattle.h41_codes.specs.declared.functions.Function.{Function}
 use Rattle.h41_codes.specs.declared.line.Line.{Line}
 use Rattle.h41_codes.specs.declared.line.Line.TheVariants as lines
+use Rattle.h41_codes.specs.declared.line.Line.TheVariants.{Plain}
 use Rattle.h41_decimal.specs.declared.fault.DecimalFault.{DecimalFault}
 use Rattle.h41_decimal.specs.declared.fault.DecimalFault.TheVariants.{Data, Range}
 use Rattle.h41_decimal.specs.declared.sign.Sign.{Sign}
@@ -11,12 +12,11 @@ use Rattle.h41_decimal.specs.declared.ten.Ten.{Ten}
 use Rattle.h41_digits.specs.Register.{IsRegister}
 use Rattle.h41_focal.specs.Destinations.{Arrives, Destination, Halts, HasNoLabel, HasNoLine, Manner, Runs, Seeks, Stays, Stepped, Tells}
 use Rattle.h41_focal.specs.Destinations.{Typed}
-use Rattle.h41_focal.specs.LineStep.{Applies, AppliesTo, AppliesWith, CarriesOut, ComputesIn, Ends, EndsInError, EntersWith}
-use Rattle.h41_focal.specs.LineStep.{FailsIfRead, Left, PassesWith, Stands, StepsAs, StepsLine}
+use Rattle.h41_focal.specs.LineStep.{Applies, AppliesTo, AppliesWith, CarriesOut, ComputesIn, Ends, EndsInError, Left, Stands}
 use Rattle.h41_positions.specs.FocalState.{Machine}
-use Rattle.h41_focal.specs.LineStep.{TakesLine, TypesLine, Works, answer_of_showing, error_flag, left_by_fault, left_done}
+use Rattle.h41_focal.specs.LineStep.{TakesLine, Works, answer_of_showing, error_flag, left_by_fault, left_done}
 use Rattle.h41_positions.specs.FocalState.{at_line}
-use Rattle.h41_focal.specs.LineStep.{left_failed, line_as, named_by, with_fault_caught, with_row}
+use Rattle.h41_focal.specs.LineStep.{left_failed, named_by, with_fault_caught, with_row}
 use Rattle.h41_focal.specs.Outcomes.{Answer}
 use Rattle.h41_focal.specs.Outcomes as answers
 use Rattle.h41_focal.specs.declared.refusal.FocalRefusal.{FocalRefusal}
@@ -42,12 +42,9 @@ use Rattle.h41_rows.specs.Rows as rows
 use Rattle.h41_rows.specs.Values.{Computes, Kept, Value}
 use Rattle.h41_rows.specs.declared.fault.LineFault.{LineFault}
 use Rattle.h41_rows.specs.declared.fault.LineFault.TheVariants.{AlphaData, DataError, Nonexistent, OutOfRange}
-use Rattle.h41_xrom.specs.Lines.{Answers, Begins, BeginsEntry, CallsEntry, CallsName, CarriesFrom, CarriesLine, CarriesNamed, Ended}
-use Rattle.h41_xrom.specs.Lines.{EntersFrom}
-use Rattle.h41_xrom.specs.Lines.{EndsAsNonexistent, FailsAsNonexistent, GoesOn, GoesOnFrom, PassesFrom, end_of_answer, end_of_starting}
-use Rattle.h41_xrom.specs.Lines.{end_of_entering}
-use Rattle.h41_xrom.specs.declared.lines.LineSource.{LineSource}
-use Rattle.h41_xrom.specs.declared.lines.LineSource.TheVariants as sources
+use Rattle.h41_focal.specs.OutsideCalls.{CallsName, CarriesLine, CarriesNamed, CarriesStanding, CarriesWhole, GoesOn, GoesOnFrom}
+use Rattle.h41_focal.specs.OutsideCalls.{LineSource, left_by_entry, left_in_program, with_line_passed}
+use Rattle.h41_focal.specs.OutsideCalls as sources
 use Rattle.h41_laws_words.proofs.Registers.{zeros_register}
 use Rattle.h41_laws_calculator.specs.WholeMemory.{IsWholeMemory}
 use Rattle.h41_laws_calculator.proofs.Bytes.{chosen}
@@ -62,10 +59,6 @@ matched false A B C is first second = second is
 abbrev pub Leaves : Result Left FocalRefusal → Type 0
 Leaves (Ok left) = IsWholeMemory left.machine.memory
 Leaves (Err refusal) = Unit {0}
-
-abbrev pub LeavesMachine : Result Machine FocalRefusal → Type 0
-LeavesMachine (Ok machine) = IsWholeMemory machine.memory
-LeavesMachine (Err refusal) = Unit {0}
 
 -- The register that a row computes.
 abbrev pub IsComputed : Result (List ℕ) LineFault → Type 0
@@ -160,12 +153,6 @@ taken pages how line machine carried valid whole is =
     matched (is_left_out line) (carried ≡ Err refusals.NotInProfile) (CarriesOut pages how line machine carried) (Leaves carried) is
     (λ none. subst Leaves (sym none) tt) (carried_out pages how line machine carried valid whole)
 
-typed_line : (pages : PageMap) (line : Line) (machine : Machine) (carried : Result Left FocalRefusal) → IsLine line
-    → IsWholeMemory machine.memory → TypesLine pages line machine carried → Leaves carried
-typed_line pages line machine carried valid whole is =
-    matched (is_sound machine.memory) (TakesLine pages Typed line machine carried) (carried ≡ Err refusals.MemoryLost) (Leaves carried) is
-    (taken pages Typed line machine carried valid whole) (λ lost. subst Leaves (sym lost) tt)
-
 -- A line at a position can be encoded in bytes.
 first_valid : (memory : RegisterMap) (at : ℕ) (found : Result ListedLine ProgramRefusal) (first : PlacedLine)
     → AnswersFirst memory at found → Ok first ≡ found_as in_memory found → IsLine first.line
@@ -189,137 +176,72 @@ line_valid pages memory (Memory at) first is = first_valid memory at is.0 first 
 line_valid pages memory (Page address) first is =
     page_valid (page_of address) (code_at pages address) (offset_of address) is.0 first is.1 is.2
 
-as_valid : (function : Option Function) (line : Line) → IsLine line → IsLine (line_as function line)
-as_valid None line valid = valid
-as_valid (Some function) line valid = tt
-
--- A line that is stepped.
-stepped_as : (pages : PageMap) (function : Option Function) (machine : Machine) (standing : Result (Line × Position) FocalRefusal)
-    (carried : Result Left FocalRefusal) → IsWholeMemory machine.memory → Stands pages machine standing
-    → StepsAs pages function machine standing carried → Leaves carried
-stepped_as pages function machine (Ok standing) carried whole stands is =
-    let first = stands.1 in
-    let valid = line_valid pages machine.memory machine.focal.position first.0 first.1 in
-    taken pages (Stepped standing.1) (line_as function standing.0) machine carried
-    (as_valid function standing.0 (subst IsLine first.2 valid)) whole is
-stepped_as pages function machine (Err refusal) carried whole stands is = subst Leaves (sym is) tt
-
-stepped_line : (pages : PageMap) (function : Option Function) (machine : Machine) (carried : Result Left FocalRefusal)
-    → IsWholeMemory machine.memory → StepsLine pages function machine carried → Leaves carried
-stepped_line pages function machine carried whole is = stepped_as pages function machine is.0 carried whole is.1 is.2
-
--- THE LINES OF THE CALCULATOR. A typed line can be encoded in bytes.
+-- THE LINES OF THE CALCULATOR, with all that they call. A typed line can be encoded in bytes.
 abbrev pub IsWholeSource : LineSource → Type 0
 IsWholeSource sources.Program = Unit {0}
 IsWholeSource (sources.Keys line) = IsLine line
 
-carried_from : (source : LineSource) (pages : PageMap) (function : Option Function) (machine : Machine)
-    (carried : Result Left FocalRefusal) → IsWholeSource source → IsWholeMemory machine.memory
-    → CarriesFrom source pages function machine carried → Leaves carried
-carried_from sources.Program pages function machine carried valid whole is = stepped_line pages function machine carried whole is
-carried_from (sources.Keys line) pages function machine carried valid whole is =
-    typed_line pages (line_as function line) machine carried (as_valid function line valid) whole is
+passed : (how : Manner) (lifts : Bool) (machine : Machine) → IsWholeMemory machine.memory
+    → IsWholeMemory (with_line_passed how lifts machine).memory
+passed (Stepped next) lifts machine whole = whole
+passed Typed lifts machine whole = whole
 
-failed_with : (fault : LineFault) (machine : Machine) (standing : Result (Line × Position) FocalRefusal)
-    (carried : Result Left FocalRefusal) → IsWholeMemory machine.memory → FailsIfRead fault machine standing carried → Leaves carried
-failed_with fault machine (Ok standing) carried whole is = fails_left (Stepped standing.1) machine fault carried whole is
-failed_with fault machine (Err refusal) carried whole is = subst Leaves (sym is) tt
+in_program : (how : Manner) (lifts : Bool) (start : Position) (machine : Machine) → IsWholeMemory machine.memory
+    → IsWholeMemory (left_in_program how lifts start machine).machine.memory
+in_program (Stepped next) lifts start machine whole = whole
+in_program Typed lifts start machine whole = whole
 
-failed_from : (source : LineSource) (pages : PageMap) (machine : Machine) (carried : Result Left FocalRefusal)
-    → IsWholeMemory machine.memory → FailsAsNonexistent source pages machine carried → Leaves carried
-failed_from sources.Program pages machine carried whole is = failed_with Nonexistent machine is.0 carried whole is.2
-failed_from (sources.Keys line) pages machine carried whole is =
-    matched (is_sound machine.memory) (EndsInError Typed machine Nonexistent carried) (carried ≡ Err refusals.MemoryLost) (Leaves carried)
-    is (fails_left Typed machine Nonexistent carried whole) (λ lost. subst Leaves (sym lost) tt)
+by_entry : (how : Manner) (lifts : Bool) (entry : Option Entry) (machine : Machine) → IsWholeMemory machine.memory
+    → IsWholeMemory (left_by_entry how lifts entry machine).machine.memory
+by_entry how lifts (Some entry) machine whole =
+    chosen (λ (left : Left). IsWholeMemory left.machine.memory) entry.keystroke
+    (left_in_program how lifts (Page entry.address) machine) _
+    (λ called. in_program how lifts (Page entry.address) machine whole) (λ begun. passed how lifts machine whole)
+by_entry how lifts None machine whole = fault_left how machine Nonexistent whole
 
-passed_with : (machine : Machine) (standing : Result (Line × Position) FocalRefusal) (after : Result Machine FocalRefusal)
-    → IsWholeMemory machine.memory → PassesWith machine standing after → LeavesMachine after
-passed_with machine (Ok standing) after whole is = subst LeavesMachine (sym is) whole
-passed_with machine (Err refusal) after whole is = subst LeavesMachine (sym is) tt
+named : (pages : PageMap) (how : Manner) (function : Option Function) (machine : Machine) (carried : Result Left FocalRefusal)
+    → IsWholeMemory machine.memory → CarriesNamed pages how function machine carried → Leaves carried
+named pages how (Some function) machine carried whole is = taken pages how (Plain function) machine carried tt whole is
+named pages how None machine carried whole is = subst Leaves (sym is) (fault_left how machine Nonexistent whole)
 
-passed_from : (source : LineSource) (pages : PageMap) (machine : Machine) (after : Result Machine FocalRefusal)
-    → IsWholeMemory machine.memory → PassesFrom source pages machine after → LeavesMachine after
-passed_from sources.Program pages machine after whole is = passed_with machine is.0 after whole is.2
-passed_from (sources.Keys line) pages machine after whole is = subst LeavesMachine (sym is) whole
+called_name : (pages : PageMap) (how : Manner) (numbers : Option (ℕ × ℕ)) (name : List ℕ) (machine : Machine)
+    (carried : Result Left FocalRefusal) → IsWholeMemory machine.memory → CallsName pages how numbers name machine carried
+    → Leaves carried
+called_name pages how (Some numbers) name machine carried whole is =
+    subst Leaves (sym is) (by_entry how false (entry_at pages numbers.0 numbers.1) machine whole)
+called_name pages how None name machine carried whole is = named pages how is.0 machine carried whole is.2
 
--- How a line ends.
-abbrev pub EndsWhole : Result Ended FocalRefusal → Type 0
-EndsWhole (Ok (Answers left)) = IsWholeMemory left.machine.memory
-EndsWhole (Ok (Begins machine address)) = IsWholeMemory machine.memory
-EndsWhole (Err refusal) = Unit {0}
+goes_on : (pages : PageMap) (how : Manner) (machine : Machine) (left : Left) (answer : Answer) (carried : Result Left FocalRefusal)
+    → IsWholeMemory machine.memory → IsWholeMemory left.machine.memory → GoesOn pages how machine left answer carried → Leaves carried
+goes_on pages how machine left (answers.Calls number entry) carried whole after is =
+    subst Leaves (sym is) (by_entry how true (entry_at pages number entry) machine whole)
+goes_on pages how machine left (answers.Seeks name) carried whole after is =
+    called_name pages how (function_of_name pages name) name machine carried whole is
+goes_on pages how machine left answer carried whole after is = subst Leaves (sym is) after
 
-ended_so : (carried : Result Left FocalRefusal) → Leaves carried → EndsWhole (end_of_answer carried)
-ended_so (Ok left) whole = whole
-ended_so (Err refusal) whole = tt
+goes_on_from : (pages : PageMap) (how : Manner) (machine : Machine) (own carried : Result Left FocalRefusal)
+    → IsWholeMemory machine.memory → Leaves own → GoesOnFrom pages how machine own carried → Leaves carried
+goes_on_from pages how machine (Ok left) carried whole after is = goes_on pages how machine left left.answer carried whole after is
+goes_on_from pages how machine (Err refusal) carried whole after is = subst Leaves (sym is) tt
 
-begun_so : (address : ℕ) (after : Result Machine FocalRefusal) → LeavesMachine after → EndsWhole (end_of_starting address after)
-begun_so address (Ok machine) whole = whole
-begun_so address (Err refusal) whole = tt
+carried_whole : (pages : PageMap) (how : Manner) (line : Line) (machine : Machine) (carried : Result Left FocalRefusal) → IsLine line
+    → IsWholeMemory machine.memory → CarriesWhole pages how line machine carried → Leaves carried
+carried_whole pages how line machine carried valid whole is =
+    goes_on_from pages how machine is.0 carried whole (taken pages how line machine is.0 valid whole is.1) is.2
 
-entered_so : (after : Result Machine FocalRefusal) → LeavesMachine after → EndsWhole (end_of_entering after)
-entered_so (Ok machine) whole = whole
-entered_so (Err refusal) whole = tt
-
-failed : (source : LineSource) (pages : PageMap) (machine : Machine) (ended : Result Ended FocalRefusal) → IsWholeMemory machine.memory
-    → EndsAsNonexistent source pages machine ended → EndsWhole ended
-failed source pages machine ended whole is =
-    subst EndsWhole (sym is.2) (ended_so is.0 (failed_from source pages machine is.0 whole is.1))
-
-entered_with : (address : ℕ) (machine : Machine) (standing : Result (Line × Position) FocalRefusal) (after : Result Machine FocalRefusal)
-    → IsWholeMemory machine.memory → EntersWith address machine standing after → LeavesMachine after
-entered_with address machine (Ok standing) after whole is = subst LeavesMachine (sym is) whole
-entered_with address machine (Err refusal) after whole is = subst LeavesMachine (sym is) tt
-
-entered_from : (source : LineSource) (pages : PageMap) (address : ℕ) (machine : Machine) (ended : Result Ended FocalRefusal)
-    → IsWholeMemory machine.memory → EntersFrom source pages address machine ended → EndsWhole ended
-entered_from sources.Program pages address machine ended whole is =
-    subst EndsWhole (sym is.2) (entered_so is.0 (entered_with address machine is.1.0 is.0 whole is.1.2))
-entered_from (sources.Keys line) pages address machine ended whole is = subst EndsWhole (sym is) whole
-
-begun : (source : LineSource) (pages : PageMap) (entry : Entry) (machine : Machine) (ended : Result Ended FocalRefusal)
-    → IsWholeMemory machine.memory → BeginsEntry source pages entry machine ended → EndsWhole ended
-begun source pages entry machine ended whole is =
-    matched entry.keystroke (EntersFrom source pages entry.address machine ended)
-    ((after : Result Machine FocalRefusal) × PassesFrom source pages machine after × (ended ≡ end_of_starting entry.address after))
-    (EndsWhole ended) is (entered_from source pages entry.address machine ended whole)
-    (λ passes. subst EndsWhole (sym passes.2) (begun_so entry.address passes.0 (passed_from source pages machine passes.0 whole passes.1)))
-
-called : (source : LineSource) (pages : PageMap) (entry : Option Entry) (machine : Machine) (ended : Result Ended FocalRefusal)
-    → IsWholeMemory machine.memory → CallsEntry source pages entry machine ended → EndsWhole ended
-called source pages (Some entry) machine ended whole is = begun source pages entry machine ended whole is
-called source pages None machine ended whole is = failed source pages machine ended whole is
-
-named : (source : LineSource) (pages : PageMap) (function : Option Function) (machine : Machine) (ended : Result Ended FocalRefusal)
-    → IsWholeSource source → IsWholeMemory machine.memory → CarriesNamed source pages function machine ended → EndsWhole ended
-named source pages (Some function) machine ended valid whole is =
-    subst EndsWhole (sym is.2) (ended_so is.0 (carried_from source pages (Some function) machine is.0 valid whole is.1))
-named source pages None machine ended valid whole is = failed source pages machine ended whole is
-
-called_name : (source : LineSource) (numbers : Option (ℕ × ℕ)) (pages : PageMap) (name : List ℕ) (machine : Machine)
-    (ended : Result Ended FocalRefusal) → IsWholeSource source → IsWholeMemory machine.memory
-    → CallsName source numbers pages name machine ended → EndsWhole ended
-called_name source (Some numbers) pages name machine ended valid whole is =
-    called source pages (entry_at pages numbers.0 numbers.1) machine ended whole is
-called_name source None pages name machine ended valid whole is = named source pages is.0 machine ended valid whole is.2
-
-goes_on : (source : LineSource) (pages : PageMap) (machine : Machine) (left : Left) (answer : Answer) (ended : Result Ended FocalRefusal)
-    → IsWholeSource source → IsWholeMemory machine.memory → IsWholeMemory left.machine.memory
-    → GoesOn source pages machine left answer ended → EndsWhole ended
-goes_on source pages machine left (answers.Calls number entry) ended valid whole after is =
-    called source pages (entry_at pages number entry) machine ended whole is
-goes_on source pages machine left (answers.Seeks name) ended valid whole after is =
-    called_name source (function_of_name pages name) pages name machine ended valid whole is
-goes_on source pages machine left answer ended valid whole after is = subst EndsWhole (sym is) after
-
-goes_on_from : (source : LineSource) (pages : PageMap) (machine : Machine) (own : Result Left FocalRefusal)
-    (ended : Result Ended FocalRefusal) → IsWholeSource source → IsWholeMemory machine.memory → Leaves own
-    → GoesOnFrom source pages machine own ended → EndsWhole ended
-goes_on_from source pages machine (Ok left) ended valid whole after is =
-    goes_on source pages machine left left.answer ended valid whole after is
-goes_on_from source pages machine (Err refusal) ended valid whole after is = subst EndsWhole (sym is) tt
+carried_standing : (pages : PageMap) (machine : Machine) (standing : Result (Line × Position) FocalRefusal)
+    (carried : Result Left FocalRefusal) → IsWholeMemory machine.memory → Stands pages machine standing
+    → CarriesStanding pages machine standing carried → Leaves carried
+carried_standing pages machine (Ok standing) carried whole stands is =
+    let first = stands.1 in
+    let valid = line_valid pages machine.memory machine.focal.position first.0 first.1 in
+    carried_whole pages (Stepped standing.1) standing.0 machine carried (subst IsLine first.2 valid) whole is
+carried_standing pages machine (Err refusal) carried whole stands is = subst Leaves (sym is) tt
 
 -- A line leaves memory well-formed.
-pub line_leaves : (source : LineSource) (pages : PageMap) (machine : Machine) (ended : Result Ended FocalRefusal) → IsWholeSource source
-    → IsWholeMemory machine.memory → CarriesLine source pages machine ended → EndsWhole ended
-line_leaves source pages machine ended valid whole is =
-    goes_on_from source pages machine is.0 ended valid whole (carried_from source pages None machine is.0 valid whole is.1) is.2
+pub line_leaves : (source : LineSource) (pages : PageMap) (machine : Machine) (carried : Result Left FocalRefusal) → IsWholeSource source
+    → IsWholeMemory machine.memory → CarriesLine source pages machine carried → Leaves carried
+line_leaves sources.Program pages machine carried valid whole is = carried_standing pages machine is.0 carried whole is.1 is.2
+line_leaves (sources.Keys line) pages machine carried valid whole is =
+    matched (is_sound machine.memory) (CarriesWhole pages Typed line machine carried) (carried ≡ Err refusals.MemoryLost) (Leaves carried)
+    is (carried_whole pages Typed line machine carried valid whole) (λ lost. subst Leaves (sym lost) tt)

@@ -38,13 +38,13 @@ use Rattle.h41_words.specs.declared.rows.Row.{Row}
 use Rattle.h41_words.specs.declared.rows.Row.TheVariants as rows
 use Rattle.h41_xrom.specs.Calculator.{CalculatorState, StepIn, StepsByLine, after_answer, after_line, after_word}
 use Rattle.h41_xrom.specs.Calculator.{is_idle, machine_of, not_typing, start, with_function, with_machine, with_pages}
-use Rattle.h41_xrom.specs.Lines.{Answers, Begins, Ended}
+use Rattle.h41_focal.specs.LineStep.{Left}
 use Rattle.h41_xrom.specs.Messages.{processor_after}
 use Rattle.h41_xrom.specs.Programs.{after_load, after_size, change_refusal, size_makes, unless_refused}
 use Rattle.h41_xrom.specs.declared.calculator.Caller.{Caller}
 use Rattle.h41_xrom.specs.declared.calculator.Mode.{Mode}
 use Rattle.h41_xrom.specs.declared.calculator.Mode.TheVariants as modes
-use Rattle.h41_xrom.specs.declared.lines.LineSource.TheVariants as sources
+use Rattle.h41_focal.specs.OutsideCalls as sources
 use Rattle.h41_xrom.specs.declared.refusal.CalculatorRefusal.{CalculatorRefusal}
 use Rattle.h41_xrom.specs.declared.refusal.CalculatorRefusal.TheVariants.{Busy, MemoryLost}
 use Rattle.h41_laws_words.proofs.Registers.{zeros_register}
@@ -52,7 +52,7 @@ use Rattle.h41_laws_words.specs.WholeStates.{HasAllRegisters, HoldsRegisters, Is
 use Rattle.h41_laws_calculator.specs.WholeCalculators.{CallLeavesWhole, IsWholeCalculator, LoadLeavesWhole, PlugLeavesWhole}
 use Rattle.h41_laws_calculator.specs.WholeCalculators.{ResetLeavesWhole, SizeLeavesWhole, StartIsWhole, StepLeavesWhole, UnplugLeavesWhole}
 use Rattle.h41_laws_calculator.specs.WholeMemory.{IsWholeMemory}
-use Rattle.h41_laws_calculator.proofs.WholeLines.{EndsWhole, line_leaves}
+use Rattle.h41_laws_calculator.proofs.WholeLines.{line_leaves}
 use Rattle.h41_laws_calculator.proofs.WholeMemories.{size_with}
 use Rattle.h41_laws_calculator.proofs.WholePrograms.{Kept, loaded, sized, three_set}
 
@@ -110,18 +110,6 @@ machine_set machine s whole memory = record {
 typing_ended : (s : CalculatorState) → IsWholeCalculator s → IsWholeCalculator (not_typing s)
 typing_ended s whole = record { nut = whole.nut; most = whole.most; input = record { entry = tt; prompt = whole.input.prompt } }
 
-answer_shown : (answer : Answer) (s : CalculatorState) → IsWholeCalculator s → IsWholeCalculator (after_answer answer s)
-answer_shown answer s whole = record {
-  nut = record {
-    processor = answered answer s.nut.processor whole.nut.processor;
-    memory = whole.nut.memory;
-    pages = whole.nut.pages;
-    key = whole.nut.key;
-  };
-  most = whole.most;
-  input = whole.input;
-}
-
 function_begun : (address : ℕ) (s : CalculatorState) → IsWholeCalculator s → IsWholeCalculator (with_function address s)
 function_begun address s whole = record {
   nut = record {
@@ -134,11 +122,22 @@ function_begun address s whole = record {
   input = whole.input;
 }
 
-pub line_left : (s : CalculatorState) (ended : Ended) → IsWholeCalculator s → EndsWhole (Ok ended) → IsWholeCalculator (after_line s ended)
-line_left s (Answers left) whole memory =
-    answer_shown left.answer (with_machine left.machine s) (machine_set left.machine s whole memory)
-line_left s (Begins machine address) whole memory =
-    function_begun address (with_machine machine s) (machine_set machine s whole memory)
+answer_shown : (answer : Answer) (s : CalculatorState) → IsWholeCalculator s → IsWholeCalculator (after_answer answer s)
+answer_shown (answers.Begins address) s whole = function_begun address s whole
+answer_shown answer s whole = record {
+  nut = record {
+    processor = answered answer s.nut.processor whole.nut.processor;
+    memory = whole.nut.memory;
+    pages = whole.nut.pages;
+    key = whole.nut.key;
+  };
+  most = whole.most;
+  input = whole.input;
+}
+
+pub line_left : (s : CalculatorState) (left : Left) → IsWholeCalculator s → IsWholeMemory left.machine.memory
+    → IsWholeCalculator (after_line s left)
+line_left s left whole memory = answer_shown left.answer (with_machine left.machine s) (machine_set left.machine s whole memory)
 
 -- WORDS do not change the size of memory.
 ram_size : (row : Row) (s : Nut) → length (ram_after row s).main ≡ length s.ram.main

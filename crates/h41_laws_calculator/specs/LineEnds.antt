@@ -2,8 +2,7 @@
 use Rattle.std.specs.Prelude.{ℕ, List}
 use Rattle.h41_positions.specs.FocalState.{Machine}
 use Rattle.h41_pages.specs.PageMap.{PageMap}
-use Rattle.h41_xrom.specs.Lines.{CarriesLine, IsNamed}
-use Rattle.h41_xrom.specs.declared.lines.LineSource.{LineSource}
+use Rattle.h41_focal.specs.OutsideCalls.{CarriesLine, IsNamed, LineSource}
 use Rattle.h41_laws_words.specs.HasOne.{HasOne}
 
 -- Any characters name exactly one function of the calculator, or none.

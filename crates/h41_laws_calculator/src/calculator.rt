@@ -9,47 +9,24 @@ ghost use Rattle.h41_laws_calculator.specs.CalculatorAnswers.{DisplayHasOneText,
 ghost use Rattle.h41_laws_calculator.specs.CalculatorAnswers.{SizeHasOneOutcome, StepHasOneOutcome};
 ghost use Rattle.h41_laws_calculator.specs.CalculatorAnswers.{StepHasOneRefusal};
 ghost use Rattle.h41_laws_calculator.specs.Keys.{KeyHasOneOutcome, KeyLeaves};
-ghost use Rattle.h41_laws_calculator.specs.LineEnds.{LineHasOneEnd, NameHasOneFunction};
 ghost use Rattle.h41_laws_calculator.specs.ProgramMode.{ChangeHasOneOutcome, MoveHasOneOutcome};
 ghost use Rattle.h41_pages.specs.PageMap.{PageMap};
 
-use crate::lines::line_has_one_outcome;
+use crate::lines::{line_has_one_end, names_have_one_function};
 use crate::programs::{
     changes_have_one_outcome, positions_have_one_answer, searches_have_one_answer,
 };
 use crate::values::value_has_one_register;
 use h41_codes::laws::byte_round_trip;
 use h41_editor::laws::{changes_are_determined, moves_are_determined};
-use h41_focal::laws::line_is_determined;
 use h41_keys::Key;
 use h41_laws_words::words::word_has_one_answer;
 use h41_positions::laws::positions_are_read;
 use h41_program::laws::one_list;
-use h41_text::laws::line_text_round_trip;
 use h41_xrom::Calculator;
 use h41_xrom::laws::{
     display_is_determined, key_is_determined, load_is_determined, step_is_determined,
 };
-
-/// States that any sequence of characters is the name of exactly one function of the calculator, or of none.
-pub fn names_have_one_function()
-    ensures { NameHasOneFunction }
-{
-    line_is_determined();
-    line_text_round_trip();
-}
-
-/// States that a program line, at the calculator's position or typed, has exactly one end, whatever pages are plugged:
-/// it is executed, it starts a module's function in microcode, or it is refused. A line that calls a module's program
-/// is executed.
-pub fn line_has_one_end()
-    ensures { LineHasOneEnd }
-{
-    names_have_one_function();
-    line_has_one_outcome();
-    line_is_determined();
-    line_text_round_trip();
-}
 
 /// States that SST, BST, `GTO . .` and BACK have exactly one outcome each in program mode, for any memory and pages;
 /// and that inserting a line, or replacing one by it, has exactly one outcome if memory is sound and the line is

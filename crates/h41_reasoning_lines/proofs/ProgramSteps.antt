@@ -300,10 +300,10 @@ module _ (pages : PageMap) (old : RegisterMap) (sixteen : length old.status ≡ 
     -- A function that has an error stops the program, unless flag 25 is set.
     pub fails : (function : Function) (row : rows.LineRow) (fault : LineFault) → function_row function ≡ Some row
         → IsLineAt old at (lines.Plain function) next → flag_of old error_flag ≡ false → Works same 0 row (Err fault)
-        → StepsLine pages None (before lift) (Ok (left_failed (after_line memory at returns lift) fault))
+        → StepsLine pages (before lift) (Ok (left_failed (after_line memory at returns lift) fault))
     fails function row fault has line clear works =
         subst
-        (λ (m : RegisterMap). StepsLine pages None (before_line m at zero returns lift)
+        (λ (m : RegisterMap). StepsLine pages (before_line m at zero returns lift)
         (Ok (left_failed (after_line m at returns lift) fault)))
         (own old sixteen sound stack contents memory is)
         (plain pages same at next zero returns lift function row (left_failed (after_line same at returns lift) fault) has

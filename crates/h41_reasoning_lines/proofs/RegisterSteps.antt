@@ -204,10 +204,10 @@ module _ (pages : PageMap) (old : RegisterMap) (sixteen : length old.status ≡ 
         -- The line has an error, which stops the program unless flag 25 is set.
         stops : (fault : LineFault) → flag_of old error_flag ≡ false
             → Works same place (into_register (OfTwo two Named X)) (Err fault)
-            → StepsLine pages None (before lift) (Ok (left_failed (after_line memory at returns lift) fault))
+            → StepsLine pages (before lift) (Ok (left_failed (after_line memory at returns lift) fault))
         stops fault clear works =
             subst
-            (λ (m : RegisterMap). StepsLine pages None (before_line m at zero returns lift)
+            (λ (m : RegisterMap). StepsLine pages (before_line m at zero returns lift)
             (Ok (left_failed (after_line m at returns lift) fault)))
             (own old sixteen sound stack contents memory is)
             (with_parameter pages same at next zero returns lift place (left_failed (after_line same at returns lift) fault) function
@@ -222,12 +222,12 @@ module _ (pages : PageMap) (old : RegisterMap) (sixteen : length old.status ≡ 
             ))
 
         pub out_of_range_by : flag_of old error_flag ≡ false → flag_of old range_ignore ≡ false → IsOfTwo two y x (Err Range)
-            → StepsLine pages None (before lift) (Ok (left_failed (after_line memory at returns lift) OutOfRange))
+            → StepsLine pages (before lift) (Ok (left_failed (after_line memory at returns lift) OutOfRange))
         out_of_range_by clear clear_range nearest =
             stops OutOfRange clear
             (range_in stack memory place two y x holds_there in_x
             (clear_there pages old sixteen sound stack contents memory is at next zero returns range_ignore clear_range) nearest)
 
         pub data_error_by : flag_of old error_flag ≡ false → IsOfTwo two y x (Err Data)
-            → StepsLine pages None (before lift) (Ok (left_failed (after_line memory at returns lift) DataError))
+            → StepsLine pages (before lift) (Ok (left_failed (after_line memory at returns lift) DataError))
         data_error_by clear nearest = stops DataError clear (data_in stack memory place two y x holds_there in_x nearest)

@@ -86,7 +86,7 @@ module _ (pages : PageMap) (memory : RegisterMap) (at next : ℕ) (zero : Bool) 
         → kind_of function ≡ RegisterKind → is_left_out (WithOperand function operand) ≡ false
         → address_of memory operand ≡ Ok address → IsLineAt memory at (WithOperand function operand) next
         → Applies pages (Stepped (Memory next)) row address here (Ok left)
-        → StepsLine pages None here (Ok left)
+        → StepsLine pages here (Ok left)
     with_parameter function operand row has kind known means is applies =
         let meant : meant_of memory (WithOperand function operand) ≡ Ok (Address address) =
         ap (λ (k : Kind). meant_as k memory operand) kind
@@ -104,7 +104,7 @@ module _ (pages : PageMap) (memory : RegisterMap) (at next : ℕ) (zero : Bool) 
     -- RCL and STO of the registers 00 to 15.
     pub short : (function : RegisterFunction) (n : ℕ) → data_register memory n ≡ Ok address → IsLineAt memory at (Register function n) next
         → Applies pages (Stepped (Memory next)) (short_row function) address here (Ok left)
-        → StepsLine pages None here (Ok left)
+        → StepsLine pages here (Ok left)
     short function n means is applies =
         taken pages memory at next zero returns lift (Register function n) left is
         (subst

@@ -56,7 +56,7 @@ module _ (pages : PageMap) where
   }
 
   -- The last line of a program.
-  pub by_last : (s : Machine) (left : Left) (After : Left → Type 0) → StepsLine pages None s (Ok left) → After left
+  pub by_last : (s : Machine) (left : Left) (After : Left → Type 0) → StepsLine pages s (Ok left) → After left
       → Leaves pages 1 s After
   by_last s left After step is =
       record { count = 0; bound = omega arith; before = s; run = refl; left = left; last = step; property = is }

@@ -80,14 +80,14 @@ module _ (pages : PageMap) (memory : RegisterMap) (at next : ℕ) (zero : Bool) 
   module _ (lift : Bool) where
     pub taken : (line : Line) (left : Left) → IsLineAt memory at line next
         → TakesLine pages (Stepped (Memory next)) line (before_line memory at zero returns lift) (Ok left)
-        → StepsLine pages None (before_line memory at zero returns lift) (Ok left)
+        → StepsLine pages (before_line memory at zero returns lift) (Ok left)
     taken line left is takes = (Ok (line, Memory next), stands pages memory at line next is, takes)
 
     -- A function without an operand, by its row.
     pub plain : (function : Function) (row : rows.LineRow) (left : Left) → function_row function ≡ Some row
         → IsLineAt memory at (Plain function) next
         → Applies pages (Stepped (Memory next)) row 0 (before_line memory at zero returns lift) (Ok left)
-        → StepsLine pages None (before_line memory at zero returns lift) (Ok left)
+        → StepsLine pages (before_line memory at zero returns lift) (Ok left)
     plain function row left has is applies =
         taken (Plain function) left is
         (subst
@@ -227,7 +227,7 @@ last_recalled pages stack memory at next zero returns is =
 -- A program returns: it continues at the newest return address, or stops if there is none.
 pub record Back (pages : PageMap) (s : Machine) : Type 0 where
   pub left : Left
-  pub step : StepsLine pages None s (Ok left)
+  pub step : StepsLine pages s (Ok left)
   pub returned : HasReturned s left
   pub memory : left.machine.memory ≡ s.memory
   pub lift : left.machine.focal.lift ≡ s.focal.lift
@@ -241,7 +241,7 @@ module _ (pages : PageMap) (lists : OneList) (memory : RegisterMap) (at next : �
   there = before_line memory at zero returns lift
 
   -- By the row of a line that returns, given its return addresses, the newest first.
-  back_by : ((left : Left) → Applies pages (Stepped (Memory next)) returning 0 there (Ok left) → StepsLine pages None there (Ok left))
+  back_by : ((left : Left) → Applies pages (Stepped (Memory next)) returning 0 there (Ok left) → StepsLine pages there (Ok left))
       → (newest : List Position) → reverse returns ≡ newest → Back pages there
   back_by steps [] are =
       let all = lists memory 0 in

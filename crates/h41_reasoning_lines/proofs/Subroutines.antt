@@ -34,7 +34,7 @@ call_returns pages most s t next Property call called few back leaves =
     (ap reverse called ∙ newest_first s.focal.returns next few) (back leaves.left leaves.property) in
     let done : leaves.left ≡ left_done leaves.left.machine = done_is leaves.left returned.0 in
     let last : Continues pages leaves.before leaves.left.machine =
-    subst (λ (left : Left). StepsLine pages None leaves.before (Ok left)) done leaves.last in
+    subst (λ (left : Left). StepsLine pages leaves.before (Ok left)) done leaves.last in
     record {
       count = 1 + (leaves.count + 1);
       bound = omega (arith, leaves.bound);

@@ -10,7 +10,7 @@ use Rattle.h41_rows.specs.declared.fault.LineFault.{LineFault}
 
 -- The line at the position of s is executed. It leaves t, and the program continues there.
 abbrev pub Continues : PageMap → Machine → Machine → Type 0
-Continues pages s t = StepsLine pages None s (Ok (left_done t))
+Continues pages s t = StepsLine pages s (Ok (left_done t))
 
 -- A run of exactly this many lines leads from s to t.
 abbrev pub Runs : PageMap → ℕ → Machine → Machine → Type 0
@@ -36,7 +36,7 @@ pub record Leaves (pages : PageMap) (most : ℕ) (s : Machine) (Property : Left 
   pub before : Machine
   pub run : Runs pages count s before
   pub left : Left
-  pub last : StepsLine pages None before (Ok left)
+  pub last : StepsLine pages before (Ok left)
   pub property : Property left
 
 -- A program continues at its newest return address, and has one return address less.

@@ -11,8 +11,8 @@ use Rattle.h41_codes.specs.declared.line.Line.TheVariants as lines
 use Rattle.h41_editor.specs.Changes.{Deletes, Inserts, Replaces}
 use Rattle.h41_editor.specs.EditorLaws.{ChangeIsDetermined, MoveIsDetermined}
 use Rattle.h41_editor.specs.Moves.{GoesToEnd, ShowsBefore, ShowsNext}
-use Rattle.h41_focal.specs.LineLaws.{EnteringIsDetermined, FailureIsDetermined, PassingIsDetermined, StepIsDetermined}
-use Rattle.h41_focal.specs.LineLaws.{TypedIsDetermined}
+use Rattle.h41_focal.specs.LineLaws.{LineIsDetermined, NameIsDetermined}
+use Rattle.h41_focal.specs.LineStep.{Left, left_done}
 use Rattle.h41_positions.specs.FocalState.{Machine}
 use Rattle.h41_keys.specs.declared.action.Action.{Action}
 use Rattle.h41_keys.specs.declared.action.Action.TheVariants as actions
@@ -36,21 +36,19 @@ use Rattle.h41_ram.specs.RegisterMap.{RegisterMap, is_sound}
 use Rattle.h41_rows.specs.RowLaws.{ValuesAreDetermined}
 use Rattle.h41_rows.specs.Values.{Computes, Written}
 use Rattle.h41_rows.specs.declared.fault.LineFault.{LineFault}
-use Rattle.h41_text.specs.TextLaws.{OneLineOfText}
-use Rattle.h41_xrom.proofs.StepLaws.{line_determined, same_function}
 use Rattle.h41_xrom.specs.Calculator.{CalculatorState, machine_of}
 use Rattle.h41_xrom.specs.CalculatorLaws.{KeyIsDetermined}
 use Rattle.h41_xrom.specs.KeyActions.{Acts, BeginsNumber, Carries, ChangesNumber, Edits, HasFlags, IsPlace, IsStoredAs, KeyMakes}
-use Rattle.h41_xrom.specs.KeyActions.{KeyOutcome, Leaves, StoredFunction, StoredIfNoLabel, StoredName, StoresLine, after_outcome}
+use Rattle.h41_xrom.specs.KeyActions.{StoredFunction, StoredIfNoLabel, StoredName, StoresLine, after_outcome}
 use Rattle.h41_xrom.specs.KeyActions.{edit_effect, flags_at, is_final, key_refusal, line_effect, press_of, puts_end, with_key_accepted}
 use Rattle.h41_xrom.specs.KeyActions.{with_number_changed, with_number_started}
-use Rattle.h41_xrom.specs.declared.lines.LineSource.{LineSource}
-use Rattle.h41_xrom.specs.declared.lines.LineSource.TheVariants as sources
+use Rattle.h41_focal.specs.OutsideCalls.{LineSource}
+use Rattle.h41_focal.specs.OutsideCalls as sources
 use Rattle.h41_xrom.specs.declared.refusal.CalculatorRefusal.{CalculatorRefusal}
 
 -- The result of an action.
 abbrev Made : Type 0
-Made = Result KeyOutcome CalculatorRefusal
+Made = Result Left CalculatorRefusal
 
 -- An edit of the program, or a move.
 same_edit : (Edit : Machine → Result Machine ProgramRefusal → Type 0) (same : MoveIsDetermined Edit) (machine : Machine) (a b : Made)
@@ -70,13 +68,13 @@ module _ (same_value : ValuesAreDetermined) where
   same_beginning : (text : List Character) (machine : Machine) (a b : Made) → BeginsNumber text machine a → BeginsNumber text machine b
       → a ≡ b
   same_beginning text machine a b (p, p_computes, p_is) (q, q_computes, q_is) =
-      p_is ∙ ap (λ (of : List ℕ). Ok (Leaves (with_number_started machine of))) (same_written text machine.memory p q p_computes q_computes)
+      p_is ∙ ap (λ (of : List ℕ). Ok (left_done (with_number_started machine of))) (same_written text machine.memory p q p_computes q_computes)
       ∙ sym q_is
 
   same_change : (text : List Character) (machine : Machine) (a b : Made) → ChangesNumber text machine a → ChangesNumber text machine b
       → a ≡ b
   same_change text machine a b (p, p_computes, p_is) (q, q_computes, q_is) =
-      p_is ∙ ap (λ (of : List ℕ). Ok (Leaves (with_number_changed machine of))) (same_written text machine.memory p q p_computes q_computes)
+      p_is ∙ ap (λ (of : List ℕ). Ok (left_done (with_number_changed machine of))) (same_written text machine.memory p q p_computes q_computes)
       ∙ sym q_is
 
 -- Where the shown line is.
@@ -96,16 +94,12 @@ module _ (positions : IsReadOnce) (same_last : AnswersAreDetermined (Result Bool
       a_is ∙ ap (λ (place : Place). flags_at place s) (same_place s.nut.pages (machine_of s) s.focal.position p q p_place q_place)
       ∙ sym b_is
 
-module _ (same_step : StepIsDetermined) (same_typing : TypedIsDetermined) (same_failure : FailureIsDetermined)
-    (same_passing : PassingIsDetermined) (same_entering : EnteringIsDetermined) (one_line : OneLineOfText) where
+module _ (same_line : LineIsDetermined) (same_function : NameIsDetermined) where
   -- A line that is executed.
   same_carry : (source : LineSource) (pages : PageMap) (machine : Machine) (a b : Made) → Carries source pages machine a
       → Carries source pages machine b → a ≡ b
   same_carry source pages machine a b (p, p_carries, p_is) (q, q_carries, q_is) =
-      p_is
-      ∙ ap line_effect
-      (line_determined same_step same_typing same_failure same_passing same_entering one_line source pages machine p q p_carries q_carries)
-      ∙ sym q_is
+      p_is ∙ ap line_effect (same_line source pages machine p q p_carries q_carries) ∙ sym q_is
 
   -- The line that is stored.
   same_stored_function : (function : Option Function) (line a b : Line) → StoredFunction line function a → StoredFunction line function b
@@ -117,7 +111,7 @@ module _ (same_step : StepIsDetermined) (same_typing : TypedIsDetermined) (same_
       → StoredIfNoLabel line name numbers a → StoredIfNoLabel line name numbers b → a ≡ b
   same_elsewhere (Some numbers) line name a b p q = p ∙ sym q
   same_elsewhere None line name a b (f, f_named, f_stored) (g, g_named, g_stored) =
-      let same : f ≡ g = same_function same_step same_typing same_failure same_passing same_entering one_line name f g f_named g_named in
+      let same : f ≡ g = same_function name f g f_named g_named in
       same_stored_function g line a b (subst (λ (function : Option Function). StoredFunction line function a) same f_stored) g_stored
 
   same_stored_name : (label : Option ℕ) (pages : PageMap) (line : Line) (name : List ℕ) (a b : Line)

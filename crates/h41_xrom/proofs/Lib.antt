@@ -6,7 +6,6 @@ pub mod KeysKept
 pub mod LabelsKept
 pub mod LabelsStay
 pub mod Loading
-pub mod Named
 pub mod Pressing
 pub mod ShownPlace
 pub mod StepLaws

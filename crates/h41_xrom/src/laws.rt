@@ -10,7 +10,6 @@ use h41_nut::laws::micro_is_determined;
 use h41_positions::laws::positions_are_read;
 use h41_program::laws::{edits_are_determined, searches_are_determined};
 use h41_rows::laws::values_are_determined;
-use h41_text::laws::line_text_round_trip;
 
 /// States that the state of a calculator determines what a single step (one program line, or one word of microcode)
 /// does: whether it is refused, with which error, and the state after it.
@@ -19,7 +18,6 @@ pub fn step_is_determined()
     ensures state { StepIsDetermined }
 {
     line_is_determined();
-    line_text_round_trip();
     micro_is_determined();
 }
 
@@ -37,7 +35,6 @@ pub fn key_is_determined()
     ensures { KeyIsDetermined }
 {
     line_is_determined();
-    line_text_round_trip();
     positions_are_read();
     moves_are_determined();
     changes_are_determined();

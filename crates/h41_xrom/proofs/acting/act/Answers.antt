@@ -1,9 +1,17 @@
 use Rattle.std.proofs.Common.{Bool, true, ◌≡◌, Result, Ok, Err, ap, refl, subst, sym, ◌∙◌}
 use Rattle.std.specs.Prelude.{IsTrue, is_ok}
 use Rattle.h41_codes.specs.declared.characters.Number.{Number}
+use Rattle.h41_codes.specs.declared.functions.Function.TheVariants.{ClearX}
 use Rattle.h41_codes.specs.declared.line.Line.{Line}
+use Rattle.h41_codes.specs.declared.line.Line.TheVariants as lines
 use Rattle.h41_editor.specs.Changes.{Deletes, Inserts, Replaces}
 use Rattle.h41_editor.specs.Moves.{GoesToEnd, ShowsBefore, ShowsNext, made_as}
+use Rattle.h41_focal.specs.LineStep.{left_done}
+use Rattle.h41_focal.specs.MachineCalls.{carried_as}
+use Rattle.h41_focal.specs.OutsideCalls as sources
+use Rattle.h41_focal.specs.OutsideCalls.{CarriesLine, LineSource}
+use Rattle.h41_focal.specs.declared.outcome.LineOutcome.{LineOutcome}
+use Rattle.h41_focal.specs.declared.refusal.FocalRefusal.{FocalRefusal}
 use Rattle.h41_keys.specs.declared.action.Action.{Action}
 use Rattle.h41_keys.specs.declared.action.Action.TheVariants as actions
 use Rattle.h41_pages.specs.PageMap.{PageMap}
@@ -16,27 +24,38 @@ use Rattle.h41_ram.specs.RegisterMap.{RegisterMap, is_sound}
 use Rattle.h41_rows.specs.RowMarks.{LeavesMark}
 use Rattle.h41_xrom.proofs.LabelsStay.{right_beside, right_over}
 use Rattle.h41_xrom.proofs.acting.act.Goals as goal
-use Rattle.h41_xrom.specs.KeyActions.{Acts, Leaves, leaves_memory, Edits, edit_effect}
+use Rattle.h41_xrom.specs.KeyActions.{Acts, Carries, Edits, edit_effect, leaves_memory, line_effect}
 use Rattle.h41_xrom.specs.KeptLabels.{KeepsAfterAction, KeepsAfterChange}
 use Rattle.h41_xrom.specs.LabelledCalculator.{CacheState, cache_of}
-use Rattle.h41_xrom.specs.declared.acting.KeyEffect.{KeyEffect}
 use Rattle.h41_xrom.specs.declared.refusal.CalculatorRefusal.{CalculatorRefusal}
-use Rattle.h41_xrom.specs.private.PrivateCalls.{IsActed, lettered, edited_as, effect_as}
+use Rattle.h41_xrom.specs.private.PrivateCalls.{IsActed, acted_as, edited_as, lettered, line_as}
 
 -- The result of an edit, or of a move, is its effect.
 effect_of_edit : (new : Machine) (given : Result (Unit {0}) ProgramRefusal)
-    → effect_as new (edited_as given) ≡ edit_effect (made_as new given)
+    → acted_as new (edited_as given) ≡ edit_effect (made_as new given)
 effect_of_edit new (Ok done) = refl
 effect_of_edit new (Err refusal) = refl
 
 edits : (edit : Machine → Result Machine ProgramRefusal → Type 0) (old from : LabelledMachine) (new : Machine)
-    (given : Result (Unit {0}) ProgramRefusal) (result : Result KeyEffect CalculatorRefusal) → from ≡ old
-    → edit (machine_of from) (made_as new given) → result ≡ edited_as given → Edits edit (machine_of old) (effect_as new result)
+    (given : Result (Unit {0}) ProgramRefusal) (result : Result LineOutcome CalculatorRefusal) → from ≡ old
+    → edit (machine_of from) (made_as new given) → result ≡ edited_as given → Edits edit (machine_of old) (acted_as new result)
 edits edit old from new given result is made told = (
   made_as new given,
   subst (λ (machine : LabelledMachine). edit (machine_of machine) (made_as new given)) is made,
-  ap (effect_as new) told ∙ effect_of_edit new given,
+  ap (acted_as new) told ∙ effect_of_edit new given,
 )
+
+-- The result of a line is its effect.
+effect_of_line : (new : Machine) (given : Result LineOutcome FocalRefusal)
+    → acted_as new (line_as given) ≡ line_effect (carried_as new given)
+effect_of_line new (Ok outcome) = refl
+effect_of_line new (Err refusal) = refl
+
+carries : (source : LineSource) (pages : PageMap) (old new : Machine) (given : Result LineOutcome FocalRefusal)
+    (result : Result LineOutcome CalculatorRefusal)
+    → CarriesLine source pages old (carried_as new given) → result ≡ line_as given → Carries source pages old (acted_as new result)
+carries source pages old new given result line told =
+    (carried_as new given, line, ap (acted_as new) told ∙ effect_of_line new given)
 
 -- Any other action is one of letters, or does nothing.
 module _ (pages : PageMap) (program_mode : Bool) (machine : Machine) where
@@ -121,7 +140,7 @@ closes old from ram focal done told is same labels marked =
 
 leaves_lettered : (pages : PageMap) (program_mode : Bool) (a : Action) (old from : LabelledMachine) (memory : RegisterMap) → from ≡ old
     → memory ≡ lettered a from.ram.registers → Lettered pages program_mode (machine_of old) a
-    → Acts pages program_mode a (machine_of old) (Ok (Leaves (machine_with memory from.focal.state)))
+    → Acts pages program_mode a (machine_of old) (Ok (left_done (machine_with memory from.focal.state)))
 leaves_lettered pages program_mode a old from memory is changed letters = rw (changed, is) letters
 
 pub returns-in-Step-clause-effect : goal.returns-in-Step-clause-effect
@@ -165,23 +184,29 @@ returns-in-Delete-clause-effect g c =
 
 pub returns-in-Step-2-clause-effect : goal.returns-in-Step-2-clause-effect
 returns-in-Step-2-clause-effect g c =
-    rw (c.in-Step-2.is, c.if-program_mode.false) c.carried.ensures.line
+    rw (c.in-Step-2.is, c.if-program_mode.false)
+    (carries sources.Program c.args.pages.now (machine_of c.args.machine.now) (machine_of c.step.new.self) c.step.result c.carried.result
+    c.step.ensures.line c.carried.ensures)
 
 pub returns-in-CarryOut-clause-effect : goal.returns-in-CarryOut-clause-effect
 returns-in-CarryOut-clause-effect g c =
-    rw c.in-CarryOut.is c.carried-in-CarryOut.ensures.line
+    rw c.in-CarryOut.is
+    (carries (sources.Keys c.in-CarryOut.line) c.args.pages.now (machine_of c.args.machine.now) (machine_of c.key.new.self) c.key.result
+    c.carried-in-CarryOut.result c.key.ensures.line c.carried-in-CarryOut.ensures)
 
 pub returns-in-EndNumber-clause-effect : goal.returns-in-EndNumber-clause-effect
 returns-in-EndNumber-clause-effect g c =
-    rw c.in-EndNumber.is c.carried-in-EndNumber.ensures.line
+    rw c.in-EndNumber.is
+    (carries (sources.Keys (lines.Plain ClearX)) c.args.pages.now (machine_of c.args.machine.now) (machine_of c.key-in-EndNumber.new.self)
+    c.key-in-EndNumber.result c.carried-in-EndNumber.result c.key-in-EndNumber.ensures.line c.carried-in-EndNumber.ensures)
 
 pub returns-in-BeginNumber-clause-effect : goal.returns-in-BeginNumber-clause-effect
 returns-in-BeginNumber-clause-effect g c =
-    rw (c.in-BeginNumber.is, c.begin_number.ensures.effect) c.begin_number.ensures.number
+    rw c.in-BeginNumber.is c.begin_number.ensures.number
 
 pub returns-in-ChangeNumber-clause-effect : goal.returns-in-ChangeNumber-clause-effect
 returns-in-ChangeNumber-clause-effect g c =
-    rw (c.in-ChangeNumber.is, c.change_number.ensures.effect) c.change_number.ensures.number
+    rw c.in-ChangeNumber.is c.change_number.ensures.number
 
 pub returns-in-GoToEnd-clause-right : goal.returns-in-GoToEnd-clause-right
 returns-in-GoToEnd-clause-right g c =

@@ -3,9 +3,7 @@ use Rattle.h41_xrom.proofs.laws.key_is_determined.Goals as goal
 
 pub returns : goal.returns
 returns c =
-    key_determined c.line_is_determined.ensures.step c.line_is_determined.ensures.typed c.line_is_determined.ensures.failure
-    c.line_is_determined.ensures.passing c.line_is_determined.ensures.entering
-    c.line_text_round_trip.ensures.one
+    key_determined c.line_is_determined.ensures.line c.line_is_determined.ensures.name
     c.searches_are_determined.ensures.global
     c.positions_are_read.ensures.read
     c.searches_are_determined.ensures.last

@@ -6,7 +6,7 @@ use Rattle.h41_debug.specs.LabelledBench.{LabelledBench, calculator_of}
 use Rattle.h41_xrom.specs.Calculator.{machine_of}
 use Rattle.h41_xrom.specs.KeptLabels.{KeepsAfterLine}
 use Rattle.h41_xrom.specs.LabelledCalculator.{LabelledCalculator}
-use Rattle.h41_xrom.specs.declared.lines.LineSource.TheVariants.{Program}
+use Rattle.h41_focal.specs.OutsideCalls.{Program}
 use Rattle.h41_debug.proofs.bench.Bench.step_line.Goals as goal
 
 pub returns-clause-refusal : goal.returns-clause-refusal

@@ -6,7 +6,8 @@ use Rattle.h41_xrom.proofs.Accepted.{acted_when}
 use Rattle.h41_xrom.proofs.Keying.{key_done, key_failed, key_lost}
 use Rattle.h41_xrom.proofs.KeysKept.{action_kept, lost_kept}
 use Rattle.h41_xrom.specs.LabelledCalculator.{cache_of}
-use Rattle.h41_xrom.specs.private.PrivateCalls.{after_effect}
+use Rattle.h41_focal.specs.Outcomes.{answer_of}
+use Rattle.h41_xrom.specs.Calculator.{CalculatorState, after_answer}
 use Rattle.h41_xrom.proofs.LabelsKept.{state_is}
 use Rattle.h41_xrom.proofs.calculator.Calculator.accept.Goals as goal
 
@@ -28,13 +29,15 @@ returns-in_err-check_memory-clause-kept g c =
 pub returns-in-Ok-clause-key : goal.returns-in-Ok-clause-key
 returns-in-Ok-clause-key g c =
     key_done c.args.key c.args.input c.args.action _ c.args.self.now.state _
-    (machine_of c.act.new.machine) c.in-Ok.effect (state_is c.self.view_is) (c.in_ok-check_memory.ensures)
-    (c.in-Ok.ensures).effect (c.finish.ensures.state ∙ ap (after_effect c.in-Ok.effect) c.tell.ensures.state)
+    (machine_of c.act.new.machine) c.in-Ok.outcome (state_is c.self.view_is) (c.in_ok-check_memory.ensures)
+    (c.in-Ok.ensures).effect
+    (c.end_line.ensures.state
+    ∙ ap (λ (s : CalculatorState). after_answer (answer_of s.nut.ram c.in-Ok.outcome) s) c.tell.ensures.state)
 
 pub returns-in-Ok-clause-kept : goal.returns-in-Ok-clause-kept
 returns-in-Ok-clause-kept g c =
-    action_kept _ _ c.args.action c.args.input _ c.args.self.now c.finish.new.self.cache (cache_of c.act.new.machine) c.self.view_is
-    (c.in_ok-check_memory.ensures) (ap is_ok c.in-Ok.is) (c.finish.ensures.cache ∙ c.tell.ensures.cache) c.act.ensures.kept
+    action_kept _ _ c.args.action c.args.input _ c.args.self.now c.end_line.new.self.cache (cache_of c.act.new.machine) c.self.view_is
+    (c.in_ok-check_memory.ensures) (ap is_ok c.in-Ok.is) (c.end_line.ensures.cache ∙ c.tell.ensures.cache) c.act.ensures.kept
 
 pub returns-in-Err-clause-key : goal.returns-in-Err-clause-key
 returns-in-Err-clause-key g c =
@@ -50,8 +53,8 @@ returns-in-Err-clause-kept g c =
 pub check_memory-requires : goal.check_memory-requires
 check_memory-requires g c = assumption
 
-pub finish-requires : goal.finish-requires
-finish-requires g c = assumption
+pub end_line-requires : goal.end_line-requires
+end_line-requires g c = assumption
 
 pub tell-requires : goal.tell-requires
 tell-requires g c = assumption

@@ -1,68 +1,41 @@
-use Rattle.std.proofs.Common.{None, Some, ap, refl}
+use Rattle.std.proofs.Common.{Some, ap, refl, ◌∙◌}
+use Rattle.h41_focal.specs.Outcomes.{answer_of}
 use Rattle.h41_positions.specs.LabelledMachine.{machine_of}
-use Rattle.h41_focal.specs.declared.outcome.LineOutcome.TheVariants as outcomes
 use Rattle.h41_xrom.proofs.LabelsKept.{line_kept, state_is}
-use Rattle.h41_xrom.proofs.Stepping.{brief_refused, done_ends, done_steps, step_change, step_refusal, step_unchanged}
-use Rattle.h41_xrom.specs.LabelledCalculator.{cache_of}
+use Rattle.h41_xrom.proofs.Stepping.{line_accepted, line_changes, line_refused}
 use Rattle.h41_xrom.proofs.calculator.Calculator.step_line.Goals as goal
-
-pub returns-then-step_into-clause-refusal : goal.returns-then-step_into-clause-refusal
-returns-then-step_into-clause-refusal g c =
-    let stepped = c.if-step_into.ensures in
-    step_refusal _ c.args.self.now.state _ (machine_of c.step_into.new.self) outcomes.Done None (state_is c.self.view_is)
-    (stepped.line, stepped.elsewhere) (done_ends _ _ c.end_entry.ensures.state)
-
-pub returns-then-step_into-clause-change : goal.returns-then-step_into-clause-change
-returns-then-step_into-clause-change g c =
-    let stepped = c.if-step_into.ensures in
-    done_steps _ c.args.self.now.state _ (machine_of c.step_into.new.self) (state_is c.self.view_is)
-    (stepped.line, stepped.elsewhere) c.end_entry.ensures.state
-
-pub returns-then-step_into-clause-kept : goal.returns-then-step_into-clause-kept
-returns-then-step_into-clause-kept g c =
-    line_kept _ c.args.self.now _ (cache_of c.step_into.new.self) c.self.view_is c.end_entry.ensures.cache
-    (c.if-step_into.ensures.kept, c.if-step_into.ensures.clear)
+use Rattle.h41_xrom.specs.Calculator.{CalculatorState, after_answer}
+use Rattle.h41_xrom.specs.LabelledCalculator.{cache_of}
 
 pub returns-in-Ok-clause-refusal : goal.returns-in-Ok-clause-refusal
 returns-in-Ok-clause-refusal g c =
-    let line = c.if-step_into.ensures.line in
-    let elsewhere = c.if-step_into.ensures.elsewhere in
-    step_refusal _ c.args.self.now.state _ (machine_of c.step_into.new.self) c.in-Ok.outcome _ (state_is c.self.view_is)
-    (rw c.in-Ok.is at line, rw c.in-Ok.is at elsewhere) c.end_outcome.ensures.line
+    line_accepted _ c.args.self.now.state (machine_of c.step.new.self) c.in-Ok.outcome (state_is c.self.view_is) (c.in-Ok.ensures).line
 
 pub returns-in-Ok-clause-change : goal.returns-in-Ok-clause-change
 returns-in-Ok-clause-change g c =
-    let line = c.if-step_into.ensures.line in
-    let elsewhere = c.if-step_into.ensures.elsewhere in
-    step_change _ c.args.self.now.state _ (machine_of c.step_into.new.self) c.in-Ok.outcome c.end_outcome.result
-    (state_is c.self.view_is) (rw c.in-Ok.is at line, rw c.in-Ok.is at elsewhere) c.end_outcome.ensures.line
-
-pub returns-in-Ok-clause-unchanged : goal.returns-in-Ok-clause-unchanged
-returns-in-Ok-clause-unchanged g c =
-    let line = c.if-step_into.ensures.line in
-    let elsewhere = c.if-step_into.ensures.elsewhere in
-    step_unchanged _ c.args.self.now.state _ (machine_of c.step_into.new.self) c.in-Ok.outcome c.end_outcome.result
-    (state_is c.self.view_is) (rw c.in-Ok.is at line, rw c.in-Ok.is at elsewhere) c.end_outcome.ensures.line
+    line_changes _ c.args.self.now.state _ (machine_of c.step.new.self) c.in-Ok.outcome (state_is c.self.view_is) (c.in-Ok.ensures).line
+    (c.end_line.ensures.state
+    ∙ ap (λ (s : CalculatorState). after_answer (answer_of s.nut.ram c.in-Ok.outcome) s) c.end_entry.ensures.state)
 
 pub returns-in-Ok-clause-kept : goal.returns-in-Ok-clause-kept
 returns-in-Ok-clause-kept g c =
-    line_kept _ c.args.self.now _ (cache_of c.step_into.new.self) c.self.view_is
-    (c.end_outcome.ensures.kept c.if-step_into.ensures.clear)
-    (c.if-step_into.ensures.kept, c.if-step_into.ensures.clear)
+    line_kept _ c.args.self.now _ (cache_of c.step.new.self) c.self.view_is (c.end_line.ensures.cache ∙ c.end_entry.ensures.cache)
+    ((c.in-Ok.ensures).kept, (c.in-Ok.ensures).clear)
 
 pub returns-in-Err-clause-refusal : goal.returns-in-Err-clause-refusal
 returns-in-Err-clause-refusal g c =
-    let steps = c.if-step_into.ensures.line in
-    let steps = rw c.in-Err.is at steps in
-    brief_refused _ c.args.self.now.state c.in-Err.refusal _ (state_is c.self.view_is) steps (ap Some c.into.ensures)
+    line_refused _ c.args.self.now.state (machine_of c.step.new.self) c.in-Err.refusal _ (state_is c.self.view_is) (c.in-Err.ensures).line
+    (ap Some c.into.ensures)
 
 pub returns-in-Err-clause-kept : goal.returns-in-Err-clause-kept
 returns-in-Err-clause-kept g c =
-    line_kept _ c.args.self.now _ (cache_of c.step_into.new.self) c.self.view_is refl
-    (c.if-step_into.ensures.kept, c.if-step_into.ensures.clear)
-
-pub end_outcome-requires : goal.end_outcome-requires
-end_outcome-requires g c = assumption
+    line_kept _ c.args.self.now _ (cache_of c.step.new.self) c.self.view_is refl ((c.in-Err.ensures).kept, (c.in-Err.ensures).clear)
 
 pub end_entry-requires : goal.end_entry-requires
 end_entry-requires g c = assumption
+
+pub end_line-requires : goal.end_line-requires
+end_line-requires g c = assumption
+
+pub step-requires : goal.step-requires
+step-requires g c = assumption

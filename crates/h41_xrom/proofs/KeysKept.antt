@@ -1,5 +1,5 @@
 -- The label cache after a key.
-use Rattle.std.proofs.Common.{◌≡◌, Bool, Option, Some, None, refl, sym, subst, ◌∙◌}
+use Rattle.std.proofs.Common.{◌≡◌, Bool, Some, None, refl, sym, subst, ◌∙◌}
 use Rattle.h41_keys.specs.KeyPress as keyboard
 use Rattle.h41_keys.specs.KeyPress.{presses}
 use Rattle.h41_keys.specs.declared.action.Action.{Action}

@@ -1,5 +1,5 @@
 -- The step of a line, by how the line was executed.
-use Rattle.std.proofs.Common.{◌≡◌, Some, None, Option, Ok, Err, refl, subst, ◌∙◌}
+use Rattle.std.proofs.Common.{◌≡◌, Some, None, Option, Ok, Err, refl, subst}
 use Rattle.h41_focal.specs.MachineCalls.{Steps, left_of}
 use Rattle.h41_focal.specs.Outcomes.{answer_of}
 use Rattle.h41_focal.specs.declared.outcome.LineOutcome.{LineOutcome}

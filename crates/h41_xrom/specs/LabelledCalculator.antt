@@ -1,7 +1,7 @@
 -- What a contract sees of a calculator in the code: its state and the label cache. No rule of the
 -- calculator depends on the cache, because a line that looks for a label finds what the search
 -- would find. That answers are cached is this project's choice.
-use Rattle.std.specs.Prelude.{ℕ, Bool, true, List, []}
+use Rattle.std.specs.Prelude.{Bool, true, List, []}
 use Rattle.h41_labels.specs.declared.search.KeptAnswer.{KeptAnswer}
 use Rattle.h41_positions.specs.FocalState.{Machine}
 use Rattle.h41_positions.specs.LabelledMachine.{LabelledMachine}

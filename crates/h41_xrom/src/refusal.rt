@@ -70,7 +70,7 @@ impl From<ProgramRefusal> for CalculatorRefusal {
 
 impl From<FocalRefusal> for CalculatorRefusal {
     ghost use Rattle.std.specs.Prelude.{◌≡◌};
-    ghost use Rattle.h41_xrom.specs.Lines.{of_line};
+    ghost use Rattle.h41_xrom.specs.Calculator.{of_line};
 
     ghost from_gives = { λ refusal own. own ≡ of_line refusal };
 

@@ -1,7 +1,7 @@
 -- What the private functions of lines and keys promise one another. No public contract needs this
 -- file.
-use Rattle.std.specs.Prelude.{◌≡◌, Bool, false, ◌&&◌, IsTrue, List, [], ◌∷◌, ◌++◌, take, ℕ}
-use Rattle.std.specs.Prelude.{Option, Some, None, Result, Ok, Err}
+use Rattle.std.specs.Prelude.{◌≡◌, Bool, ◌&&◌, IsTrue, List, [], ◌∷◌, ◌++◌, take, ℕ}
+use Rattle.std.specs.Prelude.{Option, Result, Ok, Err}
 use Rattle.std.specs.Option.{option_map_or}
 use Rattle.h41_codes.specs.declared.line.Line.{Line}
 use Rattle.h41_focal.specs.LineStep.{Left}

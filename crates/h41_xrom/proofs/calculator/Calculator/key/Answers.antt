@@ -1,4 +1,4 @@
-use Rattle.std.proofs.Common.{ap, false, rules}
+use Rattle.std.proofs.Common.{false, rules}
 use Rattle.std.specs.Result.{result_err}
 use Rattle.h41_xrom.proofs.KeysKept.{known_kept, unknown_kept}
 use Rattle.h41_xrom.proofs.Pressing.{key_known, key_quiet, key_unknown}

@@ -36,6 +36,3 @@ end_entry-requires g c = assumption
 
 pub end_line-requires : goal.end_line-requires
 end_line-requires g c = assumption
-
-pub step-requires : goal.step-requires
-step-requires g c = assumption

@@ -352,10 +352,8 @@ impl<const REGS: usize> Calculator<REGS> {
             LineOutcome::Failed(fault) => self.message = Some(fault_text(fault)),
             LineOutcome::Answered(holds) => self.message = Some(test_text(holds)),
             LineOutcome::TurnedOff => self.cpu.turn_display_off(),
-            LineOutcome::Done
-            | LineOutcome::Stopped
-            | LineOutcome::Runs
-            | LineOutcome::Begins(_) => {}
+            LineOutcome::Done | LineOutcome::Stopped | LineOutcome::Runs | LineOutcome::Begins(_) =>
+                {}
         }
     }
 

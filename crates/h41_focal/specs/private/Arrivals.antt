@@ -44,7 +44,7 @@ passed_state Typed lifts focal = focal
 abbrev pub state_in_entry : Origin → (lifts : Bool) → Entry → FocalState → FocalState
 state_in_entry origin lifts entry focal =
     if entry.keystroke then
-        focal_at origin Execute (Page entry.address) (passed_state origin lifts focal)
+    focal_at origin Execute (Page entry.address) (passed_state origin lifts focal)
     else passed_state origin lifts focal
 
 -- The outcome of such a call.

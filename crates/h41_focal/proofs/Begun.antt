@@ -62,7 +62,8 @@ takes pages old begun new line next result is stands unchanged asks keeps left =
       clear = left stands.0 ∙ ap (λ (labelled : LabelledMachine). labelled.ram.touched) is;
     }
   where
-    still : {B : Type 0} (result : Result B FocalRefusal) → OnErr result (machine_of new ≡ machine_of begun) → OnErr result (machine_of new ≡ machine_of old)
+    still : {B : Type 0} (result : Result B FocalRefusal) → OnErr result (machine_of new ≡ machine_of begun)
+        → OnErr result (machine_of new ≡ machine_of old)
     still (Ok value) same = tt
     still (Err refusal) same = same ∙ ap machine_of is
 

@@ -304,7 +304,8 @@ module _
         → CarriesWhole pages how line machine a → CarriesWhole pages how line machine b → a ≡ b
     same_whole pages how line machine a b (own, takes, goes) (other, takes_so, goes_so) =
         let same : own ≡ other = same_taken pages how line machine own other takes takes_so in
-        same_from pages how machine other a b (subst (λ (of : Result Left FocalRefusal). GoesOnFrom pages how machine of a) same goes) goes_so
+        same_from pages how machine other a b
+        (subst (λ (of : Result Left FocalRefusal). GoesOnFrom pages how machine of a) same goes) goes_so
 
     same_standing_whole : (pages : PageMap) (machine : Machine) (standing : Result (Line × Position) FocalRefusal)
         (a b : Result Left FocalRefusal)

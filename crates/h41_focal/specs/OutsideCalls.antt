@@ -1,5 +1,5 @@
--- A line with all that it calls: what is outside program memory is a function of a module, called by
--- its numbers or by its name, or a function of the calculator, called by its name. Modules are
+-- A line with all that it calls: what is outside program memory is a function of a module, called
+-- by its numbers or by its name, or a function of the calculator, called by its name. Modules are
 -- searched before the calculator's own functions.
 use Rattle.std.specs.Prelude.{◌≡◌, ℕ, Bool, true, false, ◌||◌, if◌then◌else◌, List, MatchBool}
 use Rattle.std.specs.Prelude.{Option, Some, None, Result, Ok, Err}
@@ -29,8 +29,8 @@ pub data LineSource : Type 0 where
   -- this line was typed
   Keys : Line → LineSource
 
--- The machine after a line whose function is executed elsewhere: a program goes on at the next line,
--- and the stack lift is turned on if the line is one that does so. After a typed line nothing has
+-- The machine after a line whose function is executed elsewhere: a program goes on at the next
+-- line, and stack lift is turned on if the line is one that does so. After a typed line nothing has
 -- changed.
 abbrev pub with_line_passed : Manner → (lifts : Bool) → Machine → Machine
 with_line_passed (Stepped next) lifts machine =
@@ -67,8 +67,8 @@ abbrev pub IsNamed : List ℕ → Option Function → Type 0
 IsNamed name (Some function) = function_name function ≡ name
 IsNamed name None = (function : Function) → function_name function ≡ name → ⊥
 
--- A function of the calculator is executed in place of the line that names it; if there is none, the
--- line fails with NONEXISTENT.
+-- A function of the calculator is executed in place of the line that names it; if there is none,
+-- the line fails with NONEXISTENT.
 abbrev pub CarriesNamed : PageMap → Manner → Option Function → Machine
     → Result Left FocalRefusal → Type 0
 CarriesNamed pages how (Some function) machine carried =
@@ -77,7 +77,7 @@ CarriesNamed pages how None machine carried =
     carried ≡ Ok (left_by_fault how machine Nonexistent)
 
 -- What has a name is called: if a module has such a function, the table entry of its two numbers,
--- otherwise a function of the calculator. XEQ with a name leaves the stack lift unchanged (this
+-- otherwise a function of the calculator. XEQ with a name leaves stack lift unchanged (this
 -- project's choice).
 abbrev pub CallsName : PageMap → Manner → Option (ℕ × ℕ) → List ℕ → Machine
     → Result Left FocalRefusal → Type 0
@@ -89,7 +89,7 @@ CallsName pages how None name machine carried =
     × CarriesNamed pages how function machine carried
 
 -- How a line goes on, by its own answer: what it calls outside program memory is executed. An XROM
--- line turns the stack lift on (this project's choice).
+-- line turns stack lift on (this project's choice).
 abbrev pub GoesOn : PageMap → Manner → Machine → Left → Answer → Result Left FocalRefusal → Type 0
 GoesOn pages how machine left (Calls number entry) carried =
     carried ≡ Ok (left_by_entry how true (entry_at pages number entry) machine)

@@ -68,13 +68,15 @@ module _ (same_value : ValuesAreDetermined) where
   same_beginning : (text : List Character) (machine : Machine) (a b : Made) → BeginsNumber text machine a → BeginsNumber text machine b
       → a ≡ b
   same_beginning text machine a b (p, p_computes, p_is) (q, q_computes, q_is) =
-      p_is ∙ ap (λ (of : List ℕ). Ok (left_done (with_number_started machine of))) (same_written text machine.memory p q p_computes q_computes)
+      p_is ∙ ap (λ (of : List ℕ). Ok (left_done (with_number_started machine of)))
+      (same_written text machine.memory p q p_computes q_computes)
       ∙ sym q_is
 
   same_change : (text : List Character) (machine : Machine) (a b : Made) → ChangesNumber text machine a → ChangesNumber text machine b
       → a ≡ b
   same_change text machine a b (p, p_computes, p_is) (q, q_computes, q_is) =
-      p_is ∙ ap (λ (of : List ℕ). Ok (left_done (with_number_changed machine of))) (same_written text machine.memory p q p_computes q_computes)
+      p_is ∙ ap (λ (of : List ℕ). Ok (left_done (with_number_changed machine of)))
+      (same_written text machine.memory p q p_computes q_computes)
       ∙ sym q_is
 
 -- Where the shown line is.

@@ -39,8 +39,8 @@ passed_state (Program next) lifts focal =
     record (at_position next focal) { lift = lifts || focal.lift }
 passed_state Typed lifts focal = focal
 
--- The state after a call of a module's function: a function in microcode runs elsewhere, a keystroke
--- program is called.
+-- The state after a call of a module's function: a function in microcode runs elsewhere, a
+-- keystroke program is called.
 abbrev pub state_in_entry : Origin → (lifts : Bool) → Entry → FocalState → FocalState
 state_in_entry origin lifts entry focal =
     if entry.keystroke then

@@ -39,7 +39,8 @@ returns-in-GlobalLabel g c =
     rw c.in-GlobalLabel.is
     (record {
       taken =
-          carries_whole c.args.pages.now c.args.origin (lines.GlobalLabel c.in-GlobalLabel.field-0 c.in-GlobalLabel.field-1 c.in-GlobalLabel.field-2)
+          carries_whole c.args.pages.now c.args.origin
+          (lines.GlobalLabel c.in-GlobalLabel.field-0 c.in-GlobalLabel.field-1 c.in-GlobalLabel.field-2)
           (machine_of c.args.machine.now) (machine_of c.be_silent-in-GlobalLabel.new.machine)
           (Ok c.be_silent-in-GlobalLabel.result) (c.be_silent-in-GlobalLabel.ensures.done 0 c.args.pages.now);
       unchanged = tt;
@@ -191,7 +192,8 @@ returns-in-BranchTo g c =
     rw c.in-BranchTo.is
     (record {
       taken =
-          carries_whole c.args.pages.now c.args.origin (lines.BranchTo c.in-BranchTo.branch c.in-BranchTo.field-1 c.in-BranchTo.field-2 c.in-BranchTo.label)
+          carries_whole c.args.pages.now c.args.origin
+          (lines.BranchTo c.in-BranchTo.branch c.in-BranchTo.field-1 c.in-BranchTo.field-2 c.in-BranchTo.label)
           (machine_of c.args.machine.now) (machine_of c.to_label-in-BranchTo.new.machine)
           (Ok c.to_label-in-BranchTo.result) (c.to_label-in-BranchTo.ensures.done 0);
       unchanged = tt;

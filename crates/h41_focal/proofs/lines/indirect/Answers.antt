@@ -36,7 +36,8 @@ returns-in-Err-clause-taken g c =
     let own = machine_of c.args.machine.now in
     carries_whole c.args.pages.now c.args.origin (BranchIndirect c.args.branch c.args.register) own (machine_of c.fail.new.machine)
     (Ok c.fail.result)
-    (let meant : ◌≡◌ {A = Result Meant LineFault} (Err c.in-Err.fault) (meant_of own.memory (BranchIndirect c.args.branch c.args.register)) =
+    (let meant : ◌≡◌ {A = Result Meant LineFault} (Err c.in-Err.fault)
+    (meant_of own.memory (BranchIndirect c.args.branch c.args.register)) =
     subst
     (λ (machine : Machine).
     ◌≡◌ {A = Result Meant LineFault} (Err c.in-Err.fault) (meant_of machine.memory (BranchIndirect c.args.branch c.args.register)))

@@ -111,7 +111,8 @@ returns-in-BranchTo g c =
     rw c.in-BranchTo.is
     (record {
       taken =
-          carries_whole c.args.pages.now c.args.origin (lines.BranchTo c.in-BranchTo.branch c.in-BranchTo.field-1 c.in-BranchTo.field-2 c.in-BranchTo.label)
+          carries_whole c.args.pages.now c.args.origin
+          (lines.BranchTo c.in-BranchTo.branch c.in-BranchTo.field-1 c.in-BranchTo.field-2 c.in-BranchTo.label)
           (machine_of c.args.machine.now) (machine_of c.to_label-in-BranchTo.new.machine)
           (Ok c.to_label-in-BranchTo.result) (c.to_label-in-BranchTo.ensures.done 0);
       unchanged = tt;

@@ -2,10 +2,10 @@
 
 ghost use Rattle.std.specs.Prelude.{◌≡◌, ℕ, IsTrue, OnErr, Some};
 ghost use Rattle.h41_positions.specs.LabelledMachine.{local_search};
-ghost use Rattle.h41_positions.specs.LabelledMachine.{Keeps, machine_of};
+ghost use Rattle.h41_positions.specs.LabelledMachine.{machine_of};
 ghost use Rattle.h41_focal.specs.private.Arrivals.{ReturnsFrom, answer_at, focal_at};
 ghost use Rattle.h41_focal.specs.private.Carrying.{GoesBack, GoesToLabel, GoesToName};
-ghost use Rattle.h41_focal.specs.private.Searching.{AsksFrom};
+ghost use Rattle.h41_focal.specs.private.Searching.{AsksFrom, KeepsRest};
 ghost use Rattle.h41_labels.specs.KeptAnswers.{IsRight};
 ghost use Rattle.h41_labels.specs.declared.search.Search.TheVariants.{Global};
 ghost use Rattle.h41_ram.specs.RamState.{KeepsMark};
@@ -125,8 +125,7 @@ pub fn go_back<const REGS: usize>(
     requires { IsTrue (is_sound machine.old.ram.registers) }
     ensures done { GoesBack pages.now origin
         (machine_of machine.old) (machine_of machine.new) result }
-    ensures keeps { Keeps machine.old machine.new }
-    ensures left { LeavesMark machine.old.ram machine.new.ram }
+    ensures keeps { KeepsRest machine.old machine.new }
 {
     match origin {
         Origin::Program(_) => return_from(machine, pages),
@@ -143,8 +142,7 @@ pub fn go_back<const REGS: usize>(
 fn return_from<const REGS: usize>(machine: &mut Machine<REGS>, pages: &Pages) -> LineOutcome
     requires { IsTrue (is_sound machine.old.ram.registers) }
     ensures done { ReturnsFrom pages.now (machine_of machine.old) (machine_of machine.new) result }
-    ensures keeps { Keeps machine.old machine.new }
-    ensures left { LeavesMark machine.old.ram machine.new.ram }
+    ensures keeps { KeepsRest machine.old machine.new }
 {
     match machine.focal.returns.pop() {
         Some(position) => {

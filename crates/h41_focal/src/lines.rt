@@ -3,12 +3,12 @@
 ghost use Rattle.std.specs.Prelude.{◌≡◌, ℕ, Ok, OnErr, IsTrue};
 ghost use Rattle.h41_codes.specs.declared.line.Line.TheVariants.{BranchIndirect, Named};
 ghost use Rattle.h41_focal.specs.LabelSearches.{search_for};
-ghost use Rattle.h41_positions.specs.LabelledMachine.{Keeps, machine_of};
+ghost use Rattle.h41_positions.specs.LabelledMachine.{machine_of};
 ghost use Rattle.h41_focal.specs.LineStep.{Stands};
 ghost use Rattle.h41_focal.specs.private.Carrying.{GoesToTarget};
 ghost use Rattle.h41_focal.specs.private.Carrying.{CarriesAs};
 ghost use Rattle.h41_focal.specs.private.Carrying.{TakesBranch, TakesNamed, TakesShort};
-ghost use Rattle.h41_focal.specs.private.Searching.{AsksFrom, AsksOf};
+ghost use Rattle.h41_focal.specs.private.Searching.{AsksFrom, AsksOf, KeepsRest};
 ghost use Rattle.h41_labels.specs.KeptAnswers.{IsRight};
 ghost use Rattle.h41_pages.specs.PageMap.{PageMap};
 ghost use Rattle.h41_ram.specs.RamState.{KeepsMark};
@@ -143,8 +143,7 @@ pub fn short<const REGS: usize>(
     ensures taken { (pages : PageMap) → TakesShort pages origin function register
         (machine_of machine.old) (machine_of machine.new) result }
     ensures unchanged { OnErr result (machine.new ≡ machine.old) }
-    ensures keeps { Keeps machine.old machine.new }
-    ensures left { LeavesMark machine.old.ram machine.new.ram }
+    ensures keeps { KeepsRest machine.old machine.new }
 {
     match (
         data_address(&machine.ram, u16::from(register.number())),

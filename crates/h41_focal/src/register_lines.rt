@@ -5,6 +5,7 @@ ghost use Rattle.h41_focal.specs.private.Carrying.{UsesAt};
 ghost use Rattle.h41_focal.specs.declared.uses.RegisterUse.TheVariants.{Combine, Exchange, Recall};
 ghost use Rattle.h41_focal.specs.declared.uses.RegisterUse.TheVariants.{RecallAlpha, Store};
 ghost use Rattle.h41_focal.specs.declared.uses.RegisterUse.TheVariants.{StoreAlpha, View};
+ghost use Rattle.h41_focal.specs.private.Searching.{KeepsRest};
 ghost use Rattle.h41_rows.specs.RowMarks.{IsApart, LeavesMark};
 
 use crate::addresses::X;
@@ -26,8 +27,7 @@ pub fn recall<const REGS: usize>(
 ) -> LineOutcome
     ensures done { UsesAt origin Recall address (machine_of machine.old)
         (machine_of machine.new) result }
-    ensures keeps { Keeps machine.old machine.new }
-    ensures left { LeavesMark machine.old.ram machine.new.ram }
+    ensures keeps { KeepsRest machine.old machine.new }
 {
     bring_in_from(&mut machine.ram, address, machine.focal.lift);
     go_on_lifting(&mut machine.focal, origin);
@@ -86,8 +86,7 @@ pub fn view<const REGS: usize>(
 ) -> LineOutcome
     ensures done { UsesAt origin View address (machine_of machine.old)
         (machine_of machine.new) result }
-    ensures keeps { Keeps machine.old machine.new }
-    ensures left { LeavesMark machine.old.ram machine.new.ram }
+    ensures keeps { KeepsRest machine.old machine.new }
 {
     go_on_lifting(&mut machine.focal, origin);
     LineOutcome::ViewedRegister(address)
@@ -120,8 +119,7 @@ pub fn recall_alpha<const REGS: usize>(
 ) -> LineOutcome
     ensures done { UsesAt origin RecallAlpha address (machine_of machine.old)
         (machine_of machine.new) result }
-    ensures keeps { Keeps machine.old machine.new }
-    ensures left { LeavesMark machine.old.ram machine.new.ram }
+    ensures keeps { KeepsRest machine.old machine.new }
 {
     append_register(&mut machine.ram, address);
     go_on_lifting(&mut machine.focal, origin);

@@ -1,5 +1,5 @@
 -- Definitions for the private functions that search labels.
-use Rattle.std.specs.Prelude.{Option}
+use Rattle.std.specs.Prelude.{◌≡◌, Option}
 use Rattle.h41_codes.specs.declared.line.Line.{Line}
 use Rattle.h41_positions.specs.LabelledMachine.{LabelledMachine}
 use Rattle.h41_focal.specs.LabelSearches.{search_of}
@@ -8,6 +8,8 @@ use Rattle.h41_focal.specs.private.Arrivals.{from_of}
 use Rattle.h41_labels.specs.KeptAnswers.{KeepsSearch}
 use Rattle.h41_labels.specs.declared.search.Search.{Search}
 use Rattle.h41_positions.specs.declared.position.Position.{Position}
+use Rattle.h41_ram.specs.RamState.{KeepsMark}
+use Rattle.h41_rows.specs.RowMarks.{LeavesMark}
 
 -- A search was made from the position from which the line searches local labels, or no search was
 -- made.
@@ -20,3 +22,10 @@ AsksFrom origin search old new =
 abbrev pub AsksOf : Origin → Line → (old new : LabelledMachine) → Type 0
 AsksOf origin line old new =
     AsksFrom origin (λ from. search_of old.ram.registers from line) old new
+
+-- What a line that makes no search leaves alone: the label cache, and the dirty flag of memory, which
+-- remains set, is set if programs change, and is unchanged if memory is sound.
+pub record KeepsRest (old new : LabelledMachine) : Type 0 where
+  pub mark : KeepsMark old.ram new.ram
+  pub labels : new.focal.labels ≡ old.focal.labels
+  pub left : LeavesMark old.ram new.ram

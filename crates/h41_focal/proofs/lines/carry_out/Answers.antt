@@ -17,7 +17,7 @@ returns-in-Null g c =
       unchanged = tt;
       kept = c.do_nothing.ensures.keeps.labels;
       mark = c.do_nothing.ensures.keeps.mark;
-      left = c.do_nothing.ensures.left;
+      left = c.do_nothing.ensures.keeps.left;
     })
 
 pub returns-in-LocalLabel : goal.returns-in-LocalLabel
@@ -31,7 +31,7 @@ returns-in-LocalLabel g c =
       unchanged = tt;
       kept = c.be_silent.ensures.keeps.labels;
       mark = c.be_silent.ensures.keeps.mark;
-      left = c.be_silent.ensures.left;
+      left = c.be_silent.ensures.keeps.left;
     })
 
 pub returns-in-GlobalLabel : goal.returns-in-GlobalLabel
@@ -46,7 +46,7 @@ returns-in-GlobalLabel g c =
       unchanged = tt;
       kept = c.be_silent-in-GlobalLabel.ensures.keeps.labels;
       mark = c.be_silent-in-GlobalLabel.ensures.keeps.mark;
-      left = c.be_silent-in-GlobalLabel.ensures.left;
+      left = c.be_silent-in-GlobalLabel.ensures.keeps.left;
     })
 
 pub returns-in-Number : goal.returns-in-Number
@@ -60,7 +60,7 @@ returns-in-Number g c =
       unchanged = tt;
       kept = c.number_line.ensures.keeps.labels;
       mark = c.number_line.ensures.keeps.mark;
-      left = c.number_line.ensures.left;
+      left = c.number_line.ensures.keeps.left;
     })
 
 pub returns-in-Named : goal.returns-in-Named
@@ -85,7 +85,7 @@ returns-in-Register g c =
       unchanged = same_machine c.args.machine.now c.short.new.machine c.short.result c.short.ensures.unchanged;
       kept = c.short.ensures.keeps.labels;
       mark = c.short.ensures.keeps.mark;
-      left = c.short.ensures.left;
+      left = c.short.ensures.keeps.left;
     })
 
 pub returns-in-Plain : goal.returns-in-Plain
@@ -99,7 +99,7 @@ returns-in-Plain g c =
       unchanged = same_machine c.args.machine.now c.plain.new.machine c.plain.result c.plain.ensures.unchanged;
       kept = unsearched _ (is_left_out (lines.Plain c.in-Plain.function)) _ _ c.plain.ensures.keeps.labels;
       mark = c.plain.ensures.keeps.mark;
-      left = c.plain.ensures.left;
+      left = c.plain.ensures.keeps.left;
     })
 
 pub returns-in-WithOperand : goal.returns-in-WithOperand
@@ -115,7 +115,7 @@ returns-in-WithOperand g c =
           unsearched _ (is_left_out (lines.WithOperand c.in-WithOperand.function c.in-WithOperand.operand))
           _ _ c.with_operand.ensures.keeps.labels;
       mark = c.with_operand.ensures.keeps.mark;
-      left = c.with_operand.ensures.left;
+      left = c.with_operand.ensures.keeps.left;
     })
 
 pub returns-in-Module : goal.returns-in-Module
@@ -129,7 +129,7 @@ returns-in-Module g c =
       unchanged = tt;
       kept = c.call_module.ensures.keeps.labels;
       mark = c.call_module.ensures.keeps.mark;
-      left = c.call_module.ensures.left;
+      left = c.call_module.ensures.keeps.left;
     })
 
 pub returns-in-BranchIndirect : goal.returns-in-BranchIndirect
@@ -170,7 +170,7 @@ returns-in-End g c =
       unchanged = tt;
       kept = c.go_back.ensures.keeps.labels;
       mark = c.go_back.ensures.keeps.mark;
-      left = c.go_back.ensures.left;
+      left = c.go_back.ensures.keeps.left;
     })
 
 pub returns-in-FinalEnd : goal.returns-in-FinalEnd
@@ -184,7 +184,7 @@ returns-in-FinalEnd g c =
       unchanged = tt;
       kept = c.go_back-in-FinalEnd.ensures.keeps.labels;
       mark = c.go_back-in-FinalEnd.ensures.keeps.mark;
-      left = c.go_back-in-FinalEnd.ensures.left;
+      left = c.go_back-in-FinalEnd.ensures.keeps.left;
     })
 
 pub returns-in-BranchTo : goal.returns-in-BranchTo
@@ -213,7 +213,7 @@ returns-in-Text g c =
       unchanged = tt;
       kept = c.text_line.ensures.keeps.labels;
       mark = c.text_line.ensures.keeps.mark;
-      left = c.text_line.ensures.left;
+      left = c.text_line.ensures.keeps.left;
     })
 
 pub be_silent-requires : goal.be_silent-requires

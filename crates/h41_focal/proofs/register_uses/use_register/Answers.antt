@@ -5,8 +5,8 @@ returns-in-Recall g c =
     record {
       carried = rw c.in-Recall.is (c.recall.ensures.done c.args.pages.now);
       unchanged = tt;
-      keeps = c.recall.ensures.keeps;
-      left = λ apart. c.recall.ensures.left;
+      keeps = record { mark = c.recall.ensures.keeps.mark; labels = c.recall.ensures.keeps.labels };
+      left = λ apart. c.recall.ensures.keeps.left;
     }
 
 pub returns-in-Store : goal.returns-in-Store
@@ -50,8 +50,8 @@ returns-in-View g c =
     record {
       carried = rw c.in-View.is (c.view.ensures.done c.args.pages.now);
       unchanged = tt;
-      keeps = c.view.ensures.keeps;
-      left = λ apart. c.view.ensures.left;
+      keeps = record { mark = c.view.ensures.keeps.mark; labels = c.view.ensures.keeps.labels };
+      left = λ apart. c.view.ensures.keeps.left;
     }
 
 pub returns-in-StoreAlpha : goal.returns-in-StoreAlpha
@@ -68,8 +68,8 @@ returns-in-RecallAlpha g c =
     record {
       carried = rw c.in-RecallAlpha.is (c.recall_alpha.ensures.done c.args.pages.now);
       unchanged = tt;
-      keeps = c.recall_alpha.ensures.keeps;
-      left = λ apart. c.recall_alpha.ensures.left;
+      keeps = record { mark = c.recall_alpha.ensures.keeps.mark; labels = c.recall_alpha.ensures.keeps.labels };
+      left = λ apart. c.recall_alpha.ensures.keeps.left;
     }
 
 pub returns-in-Exchange : goal.returns-in-Exchange

@@ -18,7 +18,7 @@ returns-in-LocalLabel g c =
       unchanged = tt;
       kept = c.be_silent.ensures.keeps.labels;
       mark = c.be_silent.ensures.keeps.mark;
-      left = c.be_silent.ensures.left;
+      left = c.be_silent.ensures.keeps.left;
     })
 
 pub returns-in-Register : goal.returns-in-Register
@@ -32,7 +32,7 @@ returns-in-Register g c =
       unchanged = same_machine c.args.machine.now c.short.new.machine c.short.result c.short.ensures.unchanged;
       kept = c.short.ensures.keeps.labels;
       mark = c.short.ensures.keeps.mark;
-      left = c.short.ensures.left;
+      left = c.short.ensures.keeps.left;
     })
 
 pub returns-in-Plain : goal.returns-in-Plain
@@ -46,7 +46,7 @@ returns-in-Plain g c =
       unchanged = same_machine c.args.machine.now c.plain_at_once.new.machine c.plain_at_once.result c.plain_at_once.ensures.unchanged;
       kept = unsearched _ (is_left_out (lines.Plain c.in-Plain.function)) _ _ c.plain_at_once.ensures.keeps.labels;
       mark = c.plain_at_once.ensures.keeps.mark;
-      left = c.plain_at_once.ensures.left;
+      left = c.plain_at_once.ensures.keeps.left;
     })
 
 pub returns-in-WithOperand : goal.returns-in-WithOperand
@@ -62,7 +62,7 @@ returns-in-WithOperand g c =
           unsearched _ (is_left_out (lines.WithOperand c.in-WithOperand.function c.in-WithOperand.operand))
           _ _ c.with_operand.ensures.keeps.labels;
       mark = c.with_operand.ensures.keeps.mark;
-      left = c.with_operand.ensures.left;
+      left = c.with_operand.ensures.keeps.left;
     })
 
 pub returns-in-Module : goal.returns-in-Module
@@ -76,7 +76,7 @@ returns-in-Module g c =
       unchanged = tt;
       kept = c.call_module.ensures.keeps.labels;
       mark = c.call_module.ensures.keeps.mark;
-      left = c.call_module.ensures.left;
+      left = c.call_module.ensures.keeps.left;
     })
 
 pub returns-in-BranchIndirect : goal.returns-in-BranchIndirect

@@ -8,9 +8,7 @@ ghost use Rattle.h41_focal.specs.private.Carrying.{GoesBack, GoesToLabel, GoesTo
 ghost use Rattle.h41_focal.specs.private.Searching.{AsksFrom, KeepsRest};
 ghost use Rattle.h41_labels.specs.KeptAnswers.{IsRight};
 ghost use Rattle.h41_labels.specs.declared.search.Search.TheVariants.{Global};
-ghost use Rattle.h41_ram.specs.RamState.{KeepsMark};
 ghost use Rattle.h41_ram.specs.RegisterMap.{is_sound};
-ghost use Rattle.h41_rows.specs.RowMarks.{LeavesMark};
 
 use crate::calls::call_named;
 use crate::course::fail;
@@ -41,8 +39,6 @@ pub fn to_label<const REGS: usize>(
         (machine_of machine.new) result }
     ensures kept { AsksFrom origin (λ from. local_search from label)
         machine.old machine.new }
-    ensures mark { KeepsMark machine.old.ram machine.new.ram }
-    ensures left { LeavesMark machine.old.ram machine.new.ram }
 {
     let from = match origin {
         Origin::Program(next) => next,
@@ -71,8 +67,6 @@ pub fn to_name<const REGS: usize>(
         (machine_of machine.new) result }
     ensures unchanged { OnErr result (machine_of machine.new ≡ machine_of machine.old) }
     ensures kept { AsksFrom origin (λ from. Some (Global name)) machine.old machine.new }
-    ensures mark { KeepsMark machine.old.ram machine.new.ram }
-    ensures left { LeavesMark machine.old.ram machine.new.ram }
 {
     match (machine.focal.global(&machine.ram, name), branch) {
         (Some(byte), _) => {

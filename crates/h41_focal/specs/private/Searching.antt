@@ -11,21 +11,26 @@ use Rattle.h41_positions.specs.declared.position.Position.{Position}
 use Rattle.h41_ram.specs.RamState.{KeepsMark}
 use Rattle.h41_rows.specs.RowMarks.{LeavesMark}
 
+-- What a line that makes no search leaves alone: the label cache, and the dirty flag of memory,
+-- which remains set, is set if programs change, and is unchanged if memory is sound.
+pub record KeepsRest (old new : LabelledMachine) : Type 0 where
+  pub mark : KeepsMark old.ram new.ram
+  pub labels : new.focal.labels ≡ old.focal.labels
+  pub left : LeavesMark old.ram new.ram
+
+-- The same for a line that makes a search, if it makes one: the search is cached.
+pub record KeepsAsking (search : Option Search) (old new : LabelledMachine) : Type 0 where
+  pub asks : KeepsSearch old.ram.registers search old.focal.labels new.focal.labels
+  pub mark : KeepsMark old.ram new.ram
+  pub left : LeavesMark old.ram new.ram
+
 -- A search was made from the position from which the line searches local labels, or no search was
 -- made.
 abbrev pub AsksFrom : Origin → (Position → Option Search) → (old new : LabelledMachine) → Type 0
 AsksFrom origin search old new =
-    KeepsSearch old.ram.registers (search (from_of origin old.focal.state.position))
-    old.focal.labels new.focal.labels
+    KeepsAsking (search (from_of origin old.focal.state.position)) old new
 
 -- The search of a line was made, if it has one.
 abbrev pub AsksOf : Origin → Line → (old new : LabelledMachine) → Type 0
 AsksOf origin line old new =
     AsksFrom origin (λ from. search_of old.ram.registers from line) old new
-
--- What a line that makes no search leaves alone: the label cache, and the dirty flag of memory, which
--- remains set, is set if programs change, and is unchanged if memory is sound.
-pub record KeepsRest (old new : LabelledMachine) : Type 0 where
-  pub mark : KeepsMark old.ram new.ram
-  pub labels : new.focal.labels ≡ old.focal.labels
-  pub left : LeavesMark old.ram new.ram

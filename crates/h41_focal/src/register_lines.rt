@@ -1,12 +1,11 @@
 //! Program lines with a register, for example `RCL` and `STO`.
 
-ghost use Rattle.h41_positions.specs.LabelledMachine.{Keeps, machine_of};
+ghost use Rattle.h41_positions.specs.LabelledMachine.{machine_of};
 ghost use Rattle.h41_focal.specs.private.Carrying.{UsesAt};
 ghost use Rattle.h41_focal.specs.declared.uses.RegisterUse.TheVariants.{Combine, Exchange, Recall};
 ghost use Rattle.h41_focal.specs.declared.uses.RegisterUse.TheVariants.{RecallAlpha, Store};
 ghost use Rattle.h41_focal.specs.declared.uses.RegisterUse.TheVariants.{StoreAlpha, View};
-ghost use Rattle.h41_focal.specs.private.Searching.{KeepsRest};
-ghost use Rattle.h41_rows.specs.RowMarks.{IsApart, LeavesMark};
+ghost use Rattle.h41_focal.specs.private.Searching.{KeepsApart, KeepsRest};
 
 use crate::addresses::X;
 use crate::course::{fail, go_on_lifting};
@@ -43,9 +42,7 @@ pub fn store<const REGS: usize>(
 ) -> LineOutcome
     ensures done { UsesAt origin Store address (machine_of machine.old)
         (machine_of machine.new) result }
-    ensures keeps { Keeps machine.old machine.new }
-    ensures left { IsApart machine.old.ram.registers address
-        → LeavesMark machine.old.ram machine.new.ram }
+    ensures keeps { KeepsApart address machine.old machine.new }
 {
     store_x(&mut machine.ram, address);
     go_on_lifting(&mut machine.focal, origin);
@@ -64,9 +61,7 @@ pub fn combine<const REGS: usize>(
 ) -> LineOutcome
     ensures done { UsesAt origin (Combine value) address (machine_of machine.old)
         (machine_of machine.new) result }
-    ensures keeps { Keeps machine.old machine.new }
-    ensures left { IsApart machine.old.ram.registers address
-        → LeavesMark machine.old.ram machine.new.ram }
+    ensures keeps { KeepsApart address machine.old machine.new }
 {
     match compute_of_two(&machine.ram, value, address, X) {
         Ok(register) => {
@@ -101,9 +96,7 @@ pub fn store_alpha<const REGS: usize>(
 ) -> LineOutcome
     ensures done { UsesAt origin StoreAlpha address (machine_of machine.old)
         (machine_of machine.new) result }
-    ensures keeps { Keeps machine.old machine.new }
-    ensures left { IsApart machine.old.ram.registers address
-        → LeavesMark machine.old.ram machine.new.ram }
+    ensures keeps { KeepsApart address machine.old machine.new }
 {
     let characters = first_six(&machine.ram);
     machine.ram.write(address, characters);
@@ -134,9 +127,7 @@ pub fn exchange_x<const REGS: usize>(
 ) -> LineOutcome
     ensures done { UsesAt origin Exchange address (machine_of machine.old)
         (machine_of machine.new) result }
-    ensures keeps { Keeps machine.old machine.new }
-    ensures left { IsApart machine.old.ram.registers address
-        → LeavesMark machine.old.ram machine.new.ram }
+    ensures keeps { KeepsApart address machine.old machine.new }
 {
     exchange(&mut machine.ram, address);
     go_on_lifting(&mut machine.focal, origin);

@@ -12,7 +12,7 @@ returns-in-Ok-StoreRegister-clause-keeps g c =
       mark = c.store.ensures.keeps.mark;
       labels = c.store.ensures.keeps.labels;
       left = λ sound.
-          c.store.ensures.left
+          c.store.ensures.keeps.left
           (data_found c.args.machine.now.ram.registers sound c.from.result c.in-Ok-StoreRegister.address
           (subst
           (λ (machine : LabelledMachine). IsAt (data_register machine.ram.registers c.from.result) c.in-Ok-StoreRegister.address)

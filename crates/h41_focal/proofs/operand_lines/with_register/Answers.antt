@@ -12,7 +12,7 @@ returns-in-Ok-clause-keeps g c =
       labels = c.use_register.ensures.keeps.labels;
       left = λ sound.
           let meant = c.register_of.ensures in
-          c.use_register.ensures.left
+          c.use_register.ensures.keeps.left
           (register_found c.args.machine.now.ram.registers sound c.args.operand.now c.in-Ok.address c.requires.held
           (subst
           (λ (machine : LabelledMachine).

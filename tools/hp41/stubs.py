@@ -136,7 +136,8 @@ class StubPage(NamedTuple):
 def pages_of(stubs: Iterable[Stub], first: int = 0) -> Iterator[StubPage]:
     """Yields as many stubs as fit into a page, from a place on, until all are in one. The words before are 000. To plug a page takes the
     bench longer than to call a function in it."""
-    text, found, place = "0\n" * first, [], first
+    found: list[tuple[int, Stub]] = []
+    text, place = "0\n" * first, first
     for stub in stubs:
         if place + stub.words > PAGE_SIZE:
             yield StubPage(text, found)

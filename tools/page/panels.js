@@ -249,7 +249,8 @@ function listedNext(state) {
   if ((listing.kind === "words") !== (mode === "Micro")) return null;
   if (mode === "Micro") {
     const held = new Map(listing.rows.map(([at, , words]) => [at, words]));
-    const isSame = ([at, , text]) => !held.has(at) || held.get(at).startsWith(text.slice(0, 9).trim());
+    // The second word of an instruction may be in the next page.
+    const isSame = ([at, , text]) => !held.has(at) || held.get(at).startsWith(text.slice(0, at.endsWith("FFF") ? 3 : 9).trim());
     return held.has(place) && state.listing.every(isSame) ? place : null;
   }
   // Programs run in bank 1.

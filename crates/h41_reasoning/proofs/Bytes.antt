@@ -1,5 +1,6 @@
 -- Bytes: the status bits S0 to S7, and the bits of digits of two registers.
-use Rattle.std.proofs.Common.{◌≡◌, ◌==◌, ℕ, zero, suc, ◌+◌, ◌*◌, ◌/◌, ◌%◌, ◌<◌, ◌≤◌, refl, ap, arith}
+use Rattle.std.proofs.Common.{◌≡◌, ◌==◌, ℕ, zero, suc, ◌+◌, ◌*◌, ◌/◌, ◌%◌, ◌<◌, ◌≤◌, refl, ap, sym, ◌∙◌, arith}
+use Rattle.std.proofs.Math.Nat.{div-div-eq-div-mul}
 use Rattle.std.proofs.lemmas.Nat.{and_le_l, and_le_r, le_or_l, le_or_r, or_lt}
 use Rattle.std.specs.Int.Bits.{bit_and, bit_or, or_add_and}
 use Rattle.h41_arith.specs.DigitRule.{carry_digit}
@@ -54,42 +55,31 @@ status_bits p =
 pub byte_in_status : (status byte : ℕ) → byte < 256 → (status / 256 * 256 + byte) % 256 ≡ byte
 byte_in_status status byte less = omega (arith, less)
 
+-- A byte changes no bit above it.
+above_byte : (status byte times : ℕ) → byte < 256 → (status / 256 * 256 + byte) / (256 * times) % 2 ≡ status / (256 * times) % 2
+above_byte status byte times less =
+    let same : (status / 256 * 256 + byte) / 256 ≡ status / 256 = omega (arith, less) in
+    ap (λ n. n % 2)
+    (sym (div-div-eq-div-mul (status / 256 * 256 + byte) 256 times) ∙ ap (λ n. n / times) same ∙ div-div-eq-div-mul status 256 times)
+
 module _ (p : Processor) (byte : ℕ) (less : byte < 256) where
   abbrev with_byte : Processor
   with_byte = record p { status = p.status / 256 * 256 + byte }
 
   pub status_8_kept : is_status_set 8 with_byte ≡ is_status_set 8 p
-  status_8_kept = ap (λ bit. bit == 1) (kept p.status byte less)
-    where
-      kept : (status byte : ℕ) → byte < 256 → (status / 256 * 256 + byte) / 256 % 2 ≡ status / 256 % 2
-      kept status byte less = omega (arith, less)
+  status_8_kept = ap (λ bit. bit == 1) (above_byte p.status byte 1 less)
 
   pub status_9_kept : is_status_set 9 with_byte ≡ is_status_set 9 p
-  status_9_kept = ap (λ bit. bit == 1) (kept p.status byte less)
-    where
-      kept : (status byte : ℕ) → byte < 256 → (status / 256 * 256 + byte) / 512 % 2 ≡ status / 512 % 2
-      kept status byte less = omega (arith, less)
+  status_9_kept = ap (λ bit. bit == 1) (above_byte p.status byte 2 less)
 
   pub status_10_kept : is_status_set 10 with_byte ≡ is_status_set 10 p
-  status_10_kept = ap (λ bit. bit == 1) (kept p.status byte less)
-    where
-      kept : (status byte : ℕ) → byte < 256 → (status / 256 * 256 + byte) / 1024 % 2 ≡ status / 1024 % 2
-      kept status byte less = omega (arith, less)
+  status_10_kept = ap (λ bit. bit == 1) (above_byte p.status byte 4 less)
 
   pub status_11_kept : is_status_set 11 with_byte ≡ is_status_set 11 p
-  status_11_kept = ap (λ bit. bit == 1) (kept p.status byte less)
-    where
-      kept : (status byte : ℕ) → byte < 256 → (status / 256 * 256 + byte) / 2048 % 2 ≡ status / 2048 % 2
-      kept status byte less = omega (arith, less)
+  status_11_kept = ap (λ bit. bit == 1) (above_byte p.status byte 8 less)
 
   pub status_12_kept : is_status_set 12 with_byte ≡ is_status_set 12 p
-  status_12_kept = ap (λ bit. bit == 1) (kept p.status byte less)
-    where
-      kept : (status byte : ℕ) → byte < 256 → (status / 256 * 256 + byte) / 4096 % 2 ≡ status / 4096 % 2
-      kept status byte less = omega (arith, less)
+  status_12_kept = ap (λ bit. bit == 1) (above_byte p.status byte 16 less)
 
   pub status_13_kept : is_status_set 13 with_byte ≡ is_status_set 13 p
-  status_13_kept = ap (λ bit. bit == 1) (kept p.status byte less)
-    where
-      kept : (status byte : ℕ) → byte < 256 → (status / 256 * 256 + byte) / 8192 % 2 ≡ status / 8192 % 2
-      kept status byte less = omega (arith, less)
+  status_13_kept = ap (λ bit. bit == 1) (above_byte p.status byte 32 less)

@@ -14,13 +14,9 @@ leaves_whole word (suc count) s t whole run = leaves_whole word count run.0 t (w
 -- At the end of a run the next word can have an effect too.
 pub whole_there : RunsLeaveWhole → (most : ℕ) (s : Nut) (After : Nut → Type 0) → IsWhole s → Reaches most s After
     → Reaches most s (λ t. IsWhole t × After t)
-whole_there leaves most s After whole one = record {
-  count = one.count;
-  bound = one.bound;
-  end = one.end;
-  run = one.run;
-  property = (leaves one.count s one.end whole one.run, one.property);
-}
+whole_there leaves most s After whole one =
+    let whole_end = leaves one.count s one.end whole one.run in
+    record { count = one.count; bound = one.bound; end = one.end; run = one.run; property = (whole_end, one.property) }
 
 pub takes_whole : RunsLeaveWhole → (count : ℕ) (s : Nut) (After : Nut → Type 0) → IsWhole s → Takes count s After
     → Takes count s (λ t. IsWhole t × After t)
@@ -63,25 +59,12 @@ takes_call count s u After step called one =
 pub only_c_known : (u t : Nut) (carry : Bool) (address : ℕ) (returns : List ℕ) → OnlyC u t → t.processor.carry ≡ carry
     → t.processor.pc ≡ address → t.processor.returns ≡ returns
     → t ≡ record u { processor = record u.processor { c = t.processor.c; carry = carry; pc = address; returns = returns } }
-only_c_known u t carry address returns only is_carry is_address is_returns =
-    only
-    ∙ ap (λ other. record u {
-      processor = record u.processor { c = t.processor.c; carry = other; pc = t.processor.pc; returns = t.processor.returns };
-    }) is_carry
-    ∙ ap (λ other. record u {
-      processor = record u.processor { c = t.processor.c; carry = carry; pc = other; returns = t.processor.returns };
-    }) is_address
-    ∙ ap (λ other. record u {
-      processor = record u.processor { c = t.processor.c; carry = carry; pc = address; returns = other };
-    }) is_returns
+only_c_known u t carry address returns only is_carry is_address is_returns = rw (← is_carry, ← is_address, ← is_returns) only
 
 -- Calls keep the three newest of four return addresses.
 pub calls_keep_returns : (returns : List ℕ) → length returns ≡ 4
     → (take 3 (take 3 returns ++ 0 ∷ []) ++ 0 ∷ [] ≡ take 3 returns ++ 0 ∷ [])
     × (slice_index (take 3 returns ++ 0 ∷ []) 0 ≡ slice_index returns 0)
     × (drop 1 (take 3 returns ++ 0 ∷ []) ++ 0 ∷ [] ≡ drop 1 (take 3 returns) ++ 0 ∷ 0 ∷ [])
-calls_keep_returns [] is = absurd (omega (arith, is))
-calls_keep_returns (a ∷ []) is = absurd (omega (arith, is))
-calls_keep_returns (a ∷ b ∷ []) is = absurd (omega (arith, is))
-calls_keep_returns (a ∷ b ∷ c ∷ []) is = absurd (omega (arith, is))
 calls_keep_returns (a ∷ b ∷ c ∷ d ∷ rest) is = (refl, refl, refl)
+calls_keep_returns returns is = absurd (omega (arith, is))

@@ -1,7 +1,7 @@
 -- What copies, shifts, loaded digits and tests say of the numbers in parts of a register.
 use Rattle.std.proofs.Common.{◌≡◌, ◌≢◌, ℕ, ◌+◌, ◌-◌, ◌*◌, ◌^◌, ◌<◌, ◌≤◌, ◌⊎◌, Bool, true, false, List, ◌==◌, if◌then◌else◌}
-use Rattle.std.proofs.Common.{length, slice_index, slice_set, nat_lt, inl, inr, refl, ap, subst, ◌∙◌, arith, rules}
-use Rattle.std.proofs.lemmas.Bool.{cases_lt}
+use Rattle.std.proofs.Common.{length, slice_index, slice_set, inl, inr, refl, ap, subst, ◌∙◌, arith, rules}
+use Rattle.std.proofs.lemmas.Bool.{eq-eqb, ltb-false, ltb-true, ne_eqb}
 use Rattle.std.proofs.Math.Nat.{pow-zero}
 use Rattle.std.specs.Prelude.{IsTrue}
 use Rattle.h41_arith.specs.DigitRule.{KeepsOutside, carry_digit, copy_of, is_different, is_less, shifted_left, shifted_right, span_value}
@@ -51,18 +51,12 @@ module _ (replaced : ReplacedIsDetermined) (into x : List ℕ) (lo hi : ℕ) (si
   right_keeps = shifted.outside
 
   pub right_top : lo ≤ hi → slice_index (shifted_right into x lo hi) hi ≡ 0
-  right_top ordered = shifted.inside hi ordered (omega arith) ∙ ap (λ yes. if yes then 0 else slice_index x (hi + 1)) (same hi)
-    where
-      same : (n : ℕ) → (n == n) ≡ true
-      same n = search rules
+  right_top ordered = shifted.inside hi ordered (omega arith) ∙ ap (λ yes. if yes then 0 else slice_index x (hi + 1)) (eq-eqb hi hi refl)
 
   pub right_digit : (place : ℕ) → lo ≤ place → place < hi → slice_index (shifted_right into x lo hi) place ≡ slice_index x (place + 1)
   right_digit place from less =
       shifted.inside place from (omega (arith, less))
-      ∙ ap (λ yes. if yes then 0 else slice_index x (place + 1)) (apart place hi less)
-    where
-      apart : (n m : ℕ) → n < m → (n == m) ≡ false
-      apart n m less = search (rules, arith)
+      ∙ ap (λ yes. if yes then 0 else slice_index x (place + 1)) (ne_eqb place hi (λ same. omega (arith, same, less)))
 
 -- A shift to the left: place lo becomes 0.
 module _ (replaced : ReplacedIsDetermined) (into x : List ℕ) (lo hi : ℕ) (size : length into ≡ 14) (inside : hi < 14) where
@@ -73,18 +67,12 @@ module _ (replaced : ReplacedIsDetermined) (into x : List ℕ) (lo hi : ℕ) (si
   left_keeps = moved.outside
 
   pub left_low : lo ≤ hi → slice_index (shifted_left into x lo hi) lo ≡ 0
-  left_low ordered = moved.inside lo (omega arith) ordered ∙ ap (λ yes. if yes then 0 else slice_index x (lo - 1)) (same lo)
-    where
-      same : (n : ℕ) → (n == n) ≡ true
-      same n = search rules
+  left_low ordered = moved.inside lo (omega arith) ordered ∙ ap (λ yes. if yes then 0 else slice_index x (lo - 1)) (eq-eqb lo lo refl)
 
   pub left_digit : (place : ℕ) → lo < place → place ≤ hi → slice_index (shifted_left into x lo hi) place ≡ slice_index x (place - 1)
   left_digit place more to =
       moved.inside place (omega (arith, more)) to
-      ∙ ap (λ yes. if yes then 0 else slice_index x (place - 1)) (apart place lo more)
-    where
-      apart : (n m : ℕ) → m < n → (n == m) ≡ false
-      apart n m more = search (rules, arith)
+      ∙ ap (λ yes. if yes then 0 else slice_index x (place - 1)) (ne_eqb place lo (λ same. omega (arith, same, more)))
 
 -- A digit that is loaded at a place.
 pub loaded_digit : (c : List ℕ) (place digit : ℕ) → place < length c → slice_index (slice_set c place digit) place ≡ digit
@@ -127,23 +115,11 @@ module _ (c : List ℕ) (one two three : ℕ) (size : length c ≡ 14) where
 module _ (x y : List ℕ) (lo hi : ℕ) where
   pub less_number : is_less x y lo hi ≡ true → number_of 16 x lo hi < number_of 16 y lo hi
   unfolding is_less span_value
-  less_number test = elim (cases_lt (number_of 16 x lo hi) (number_of 16 y lo hi)) [
-    | inl less ↦ less
-    | inr more ↦ absurd (never (number_of 16 x lo hi) (number_of 16 y lo hi) more test)
-  ]
-    where
-      never : (n m : ℕ) → m ≤ n → nat_lt n m ≡ true → ⊥
-      never n m more test = search (rules, arith, more, test)
+  less_number test = ltb-true (number_of 16 x lo hi) (number_of 16 y lo hi) test
 
   pub not_less_number : is_less x y lo hi ≡ false → number_of 16 y lo hi ≤ number_of 16 x lo hi
   unfolding is_less span_value
-  not_less_number test = elim (cases_lt (number_of 16 x lo hi) (number_of 16 y lo hi)) [
-    | inl less ↦ absurd (never (number_of 16 x lo hi) (number_of 16 y lo hi) less test)
-    | inr more ↦ more
-  ]
-    where
-      never : (n m : ℕ) → n < m → nat_lt n m ≡ false → ⊥
-      never n m less test = search (rules, arith, less, test)
+  not_less_number test = ltb-false (number_of 16 x lo hi) (number_of 16 y lo hi) test
 
 -- ?A#C: what is not different is the same number.
 pub same_numbers : DifferentAtAPlace → (base : ℕ) (x y : List ℕ) (lo hi : ℕ) → is_different x y lo hi ≡ false

@@ -1,8 +1,8 @@
 -- Decimal digits: parts of registers, sums and differences in base 10.
-use Rattle.std.proofs.Common.{◌≡◌, ℕ, zero, suc, ◌+◌, ◌-◌, ◌*◌, ◌%◌, ◌^◌, ◌<◌, ◌≤◌, Bool, List, slice_index, inl, inr, sym, ◌∙◌, arith}
+use Rattle.std.proofs.Common.{◌≡◌, ℕ, zero, suc, ◌+◌, ◌-◌, ◌^◌, ◌<◌, ◌≤◌, Bool, List, slice_index, inl, inr, sym, ◌∙◌, arith}
 use Rattle.std.proofs.Math.Nat.{pow-succ', pow-zero, mul-le-mul_left}
 use Rattle.std.proofs.lemmas.Bool.{cases_lt}
-use Rattle.h41_arith.specs.DigitRule.{DifferenceDigit, DifferenceInto, SumDigit, SumInto, carry_digit, zeros}
+use Rattle.h41_arith.specs.DigitRule.{DifferenceDigit, DifferenceInto, HasCarries, HasResult, SumDigit, SumInto, zeros}
 use Rattle.h41_arith.specs.DigitRuleLaws.{number_of}
 use Rattle.h41_fields.specs.Field.{from_to}
 use Rattle.h41_reasoning.proofs.Changes.{carry_at_most, one_digit}
@@ -59,53 +59,33 @@ sum_digit : (x y carry z other : ℕ) → SumDigit 10 x y carry z other → x �
 sum_digit x y carry z other (inl is) one two three = (omega (arith, is.0, is.1), omega (arith, is.2))
 sum_digit x y carry z other (inr is) one two three = (omega (arith, is.0, is.1, one, two, three), omega (arith, is.2))
 
-difference_digit : (x y borrow z other : ℕ) → DifferenceDigit 10 x y borrow z other → x ≤ 9 → y ≤ 9 → borrow ≤ 1
-    → (z ≤ 9) × (other ≤ 1)
+difference_digit : (x y borrow z other : ℕ) → DifferenceDigit 10 x y borrow z other → x ≤ 9 → y ≤ 9 → borrow ≤ 1 → (z ≤ 9) × (other ≤ 1)
 difference_digit x y borrow z other (inl is) one two three = (omega (arith, is.0, is.1, one), omega (arith, is.2))
 difference_digit x y borrow z other (inr is) one two three = (omega (arith, is.0, is.1, one, two, three), omega (arith, is.2))
 
--- A rule of one place that leaves a carry of at most 1 has such carries everywhere.
-carries_small : (Rule : ℕ → ℕ → ℕ → Type 0) (carries z : List ℕ) (lo hi : ℕ) → slice_index carries lo ≤ 1
-    → ((place : ℕ) → lo ≤ place → place ≤ hi → slice_index carries place ≤ 1
-    → (slice_index z place ≤ 9) × (slice_index carries (place + 1) ≤ 1))
-    → (count : ℕ) → lo + count ≤ hi → slice_index carries (lo + count) ≤ 1
-carries_small Rule carries z lo hi first each zero less =
-    let here : lo + 0 ≡ lo = omega arith in
-    rw here first
-carries_small Rule carries z lo hi first each (suc count) less =
-    let here : lo + suc count ≡ lo + count + 1 = omega arith in
-    rw here ((each (lo + count) (omega arith) (omega (arith, less))
-    (carries_small Rule carries z lo hi first each count (omega (arith, less)))).1)
+-- A rule of one place that leaves a digit below 10 and a carry of at most 1 leaves such digits everywhere.
+module _ (rule : ℕ → ℕ → ℕ → ℕ → ℕ → Type 0)
+    (small : (x y carry z other : ℕ) → rule x y carry z other → x ≤ 9 → y ≤ 9 → carry ≤ 1 → (z ≤ 9) × (other ≤ 1))
+    (lo hi : ℕ) (into x y z : List ℕ) (carry_in carry : Bool) (one : IsDecimal x lo hi) (two : IsDecimal y lo hi)
+    (result : HasResult (HasCarries rule) into x y carry_in lo hi z carry) where
+  bit_at : (count : ℕ) → lo + count ≤ hi → slice_index result.digits.carries (lo + count) ≤ 1
+  bit_at zero less = let here : lo + 0 ≡ lo = omega arith in rw here (omega (arith, result.digits.first, carry_at_most carry_in))
+  bit_at (suc count) less =
+      let here : lo + suc count ≡ lo + count + 1 = omega arith in
+      let step = result.digits.places (lo + count) (omega arith) (omega (arith, less)) in
+      rw here (small _ _ _ _ _ step (one (lo + count) (omega arith) (omega (arith, less)))
+      (two (lo + count) (omega arith) (omega (arith, less))) (bit_at count (omega (arith, less)))).1
+
+  decimal_result : IsDecimal z lo hi
+  decimal_result place from to =
+      let here : lo + (place - lo) ≡ place = omega (arith, from) in
+      let bit = rw here at (bit_at (place - lo) (omega (arith, from, to))) in
+      (small _ _ _ _ _ (result.digits.places place from to) (one place from to) (two place from to) bit).0
 
 pub decimal_sum : (lo hi : ℕ) (into x y z : List ℕ) (carry_in carry : Bool) → IsDecimal x lo hi → IsDecimal y lo hi
     → SumInto 10 into x y carry_in lo hi z carry → IsDecimal z lo hi
-decimal_sum lo hi into x y z carry_in carry one two sum place from to = (each place from to here).0
-  where
-    each : (place : ℕ) → lo ≤ place → place ≤ hi → slice_index sum.digits.carries place ≤ 1
-        → (slice_index z place ≤ 9) × (slice_index sum.digits.carries (place + 1) ≤ 1)
-    each place from to bit = sum_digit _ _ _ _ _ (sum.digits.places place from to) (one place from to) (two place from to) bit
-
-    here : slice_index sum.digits.carries place ≤ 1
-    here =
-        let at : lo + (place - lo) ≡ place = omega (arith, from) in
-        let first : slice_index sum.digits.carries lo ≤ 1 = omega (arith, sum.digits.first, carry_at_most carry_in) in
-        let found = carries_small (λ a b c. a ≤ b) sum.digits.carries z lo hi first each (place - lo) (omega (arith, from, to)) in
-        rw (sym at) found
+decimal_sum = decimal_result (SumDigit 10) sum_digit
 
 pub decimal_difference : (lo hi : ℕ) (into x y z : List ℕ) (borrow_in borrow : Bool) → IsDecimal x lo hi → IsDecimal y lo hi
     → DifferenceInto 10 into x y borrow_in lo hi z borrow → IsDecimal z lo hi
-decimal_difference lo hi into x y z borrow_in borrow one two difference place from to = (each place from to here).0
-  where
-    each : (place : ℕ) → lo ≤ place → place ≤ hi → slice_index difference.digits.carries place ≤ 1
-        → (slice_index z place ≤ 9) × (slice_index difference.digits.carries (place + 1) ≤ 1)
-    each place from to bit =
-        difference_digit _ _ _ _ _ (difference.digits.places place from to) (one place from to) (two place from to) bit
-
-    here : slice_index difference.digits.carries place ≤ 1
-    here =
-        let at : lo + (place - lo) ≡ place = omega (arith, from) in
-        let first : slice_index difference.digits.carries lo ≤ 1 =
-        omega (arith, difference.digits.first, carry_at_most borrow_in) in
-        let found =
-        carries_small (λ a b c. a ≤ b) difference.digits.carries z lo hi first each (place - lo) (omega (arith, from, to)) in
-        rw (sym at) found
+decimal_difference = decimal_result (DifferenceDigit 10) difference_digit

@@ -9,8 +9,7 @@ use Rattle.h41_nut.specs.declared.base.Base.{Base}
 use Rattle.h41_nut.specs.declared.base.Base.TheVariants.{Decimal, Hexadecimal}
 
 -- A place of a sum that does not carry.
-pub no_carry : (base x y carry z other : ℕ) → SumDigit base x y carry z other → x + y + carry < base
-    → (z ≡ x + y + carry) × (other ≡ 0)
+pub no_carry : (base x y carry z other : ℕ) → SumDigit base x y carry z other → x + y + carry < base → (z ≡ x + y + carry) × (other ≡ 0)
 no_carry base x y carry z other (inl is) less = (is.1, is.2)
 no_carry base x y carry z other (inr is) less = absurd (omega (arith, less, is.0))
 

@@ -6,7 +6,7 @@ use Rattle.h41_fields.specs.Field.{first_place, last_place}
 use Rattle.h41_fields.specs.declared.field.Field.{Field}
 use Rattle.h41_laws_words.specs.WholeStates.{IsWhole}
 use Rattle.h41_nut.specs.Addresses.{is_closed}
-use Rattle.h41_nut.specs.Arithmetic.{Operates, base_number}
+use Rattle.h41_nut.specs.Arithmetic.{IntoA, IntoC, Operates, base_number}
 use Rattle.h41_nut.specs.Arrivals.{gone_on, next_address}
 use Rattle.h41_nut.specs.Processor.{Processor}
 use Rattle.h41_nut.specs.WordStep.{Nut}
@@ -47,82 +47,71 @@ module _ (arithmetic : ArithmeticIsExecuted) (field : Field) (s : Nut) (whole : 
       let found = arithmetic operation field s whole next is_open in
       subst (λ t. StepsTo s (record s { processor = t })) (written found.0 found.1) found.2
 
+  -- A sum or a difference.
+  in_c : (operation : Operation) (Rule : List ℕ → Bool → Type 0)
+      → ((t : Processor) → Operates operation lo hi (gone_on s.processor) t → IntoC Rule (gone_on s.processor) t)
+      → IsNext (Arithmetic operation field) s → LeavesInC Rule s
+  in_c operation Rule is next =
+      let found = arithmetic operation field s whole next is_open in
+      into_c Rule s (gone_on s.processor) found.0 (is found.0 found.1) found.2
+
+  in_a : (operation : Operation) (Rule : List ℕ → Bool → Type 0)
+      → ((t : Processor) → Operates operation lo hi (gone_on s.processor) t → IntoA Rule (gone_on s.processor) t)
+      → IsNext (Arithmetic operation field) s → LeavesInA Rule s
+  in_a operation Rule is next =
+      let found = arithmetic operation field s whole next is_open in
+      into_a Rule s (gone_on s.processor) found.0 (is found.0 found.1) found.2
+
   -- C=C+1, C=A+C, C=C+C, C=C-1, C=A-C, C=0-C and C=-C-1.
   pub c_incremented : IsNext (Arithmetic operations.IncrementC field) s
       → LeavesInC (SumInto base s.processor.c s.processor.c zeros true lo hi) s
-  c_incremented next =
-      let found = arithmetic operations.IncrementC field s whole next is_open in
-      into_c _ s (gone_on s.processor) found.0 found.1 found.2
+  c_incremented = in_c operations.IncrementC _ (λ t is. is)
 
   pub a_added_to_c : IsNext (Arithmetic operations.AddAToC field) s
       → LeavesInC (SumInto base s.processor.c s.processor.a s.processor.c false lo hi) s
-  a_added_to_c next =
-      let found = arithmetic operations.AddAToC field s whole next is_open in
-      into_c _ s (gone_on s.processor) found.0 found.1 found.2
+  a_added_to_c = in_c operations.AddAToC _ (λ t is. is)
 
   pub c_doubled : IsNext (Arithmetic operations.DoubleC field) s
       → LeavesInC (SumInto base s.processor.c s.processor.c s.processor.c false lo hi) s
-  c_doubled next =
-      let found = arithmetic operations.DoubleC field s whole next is_open in
-      into_c _ s (gone_on s.processor) found.0 found.1 found.2
+  c_doubled = in_c operations.DoubleC _ (λ t is. is)
 
   pub c_decremented : IsNext (Arithmetic operations.DecrementC field) s
       → LeavesInC (DifferenceInto base s.processor.c s.processor.c zeros true lo hi) s
-  c_decremented next =
-      let found = arithmetic operations.DecrementC field s whole next is_open in
-      into_c _ s (gone_on s.processor) found.0 found.1 found.2
+  c_decremented = in_c operations.DecrementC _ (λ t is. is)
 
   pub c_subtracted_from_a : IsNext (Arithmetic operations.SubtractCFromAToC field) s
       → LeavesInC (DifferenceInto base s.processor.c s.processor.a s.processor.c false lo hi) s
-  c_subtracted_from_a next =
-      let found = arithmetic operations.SubtractCFromAToC field s whole next is_open in
-      into_c _ s (gone_on s.processor) found.0 found.1 found.2
+  c_subtracted_from_a = in_c operations.SubtractCFromAToC _ (λ t is. is)
 
   pub c_negated : IsNext (Arithmetic operations.NegateC field) s
       → LeavesInC (DifferenceInto base s.processor.c zeros s.processor.c false lo hi) s
-  c_negated next =
-      let found = arithmetic operations.NegateC field s whole next is_open in
-      into_c _ s (gone_on s.processor) found.0 found.1 found.2
+  c_negated = in_c operations.NegateC _ (λ t is. is)
 
   pub c_complemented : IsNext (Arithmetic operations.ComplementC field) s
       → LeavesInC (DifferenceInto base s.processor.c zeros s.processor.c true lo hi) s
-  c_complemented next =
-      let found = arithmetic operations.ComplementC field s whole next is_open in
-      into_c _ s (gone_on s.processor) found.0 found.1 found.2
+  c_complemented = in_c operations.ComplementC _ (λ t is. is)
 
   -- A=A+1, A=A+B, A=A+C, A=A-1, A=A-B and A=A-C.
   pub a_incremented : IsNext (Arithmetic operations.IncrementA field) s
       → LeavesInA (SumInto base s.processor.a s.processor.a zeros true lo hi) s
-  a_incremented next =
-      let found = arithmetic operations.IncrementA field s whole next is_open in
-      into_a _ s (gone_on s.processor) found.0 found.1 found.2
+  a_incremented = in_a operations.IncrementA _ (λ t is. is)
 
   pub b_added_to_a : IsNext (Arithmetic operations.AddBToA field) s
       → LeavesInA (SumInto base s.processor.a s.processor.a s.processor.b false lo hi) s
-  b_added_to_a next =
-      let found = arithmetic operations.AddBToA field s whole next is_open in
-      into_a _ s (gone_on s.processor) found.0 found.1 found.2
+  b_added_to_a = in_a operations.AddBToA _ (λ t is. is)
 
   pub c_added_to_a : IsNext (Arithmetic operations.AddCToA field) s
       → LeavesInA (SumInto base s.processor.a s.processor.a s.processor.c false lo hi) s
-  c_added_to_a next =
-      let found = arithmetic operations.AddCToA field s whole next is_open in
-      into_a _ s (gone_on s.processor) found.0 found.1 found.2
+  c_added_to_a = in_a operations.AddCToA _ (λ t is. is)
 
   pub a_decremented : IsNext (Arithmetic operations.DecrementA field) s
       → LeavesInA (DifferenceInto base s.processor.a s.processor.a zeros true lo hi) s
-  a_decremented next =
-      let found = arithmetic operations.DecrementA field s whole next is_open in
-      into_a _ s (gone_on s.processor) found.0 found.1 found.2
+  a_decremented = in_a operations.DecrementA _ (λ t is. is)
 
   pub b_subtracted_from_a : IsNext (Arithmetic operations.SubtractBFromA field) s
       → LeavesInA (DifferenceInto base s.processor.a s.processor.a s.processor.b false lo hi) s
-  b_subtracted_from_a next =
-      let found = arithmetic operations.SubtractBFromA field s whole next is_open in
-      into_a _ s (gone_on s.processor) found.0 found.1 found.2
+  b_subtracted_from_a = in_a operations.SubtractBFromA _ (λ t is. is)
 
   pub c_taken_from_a : IsNext (Arithmetic operations.SubtractCFromA field) s
       → LeavesInA (DifferenceInto base s.processor.a s.processor.a s.processor.c false lo hi) s
-  c_taken_from_a next =
-      let found = arithmetic operations.SubtractCFromA field s whole next is_open in
-      into_a _ s (gone_on s.processor) found.0 found.1 found.2
+  c_taken_from_a = in_a operations.SubtractCFromA _ (λ t is. is)

@@ -56,8 +56,7 @@ module _ (straight : WordIsExecuted) (s : Nut) (whole : IsWhole s) where
 
     abbrev by : Bool → Processor
     by taken =
-        if taken && is_execute (second_of word).kind then with_return_pushed (address_after_both s.processor) s.processor
-        else s.processor
+        if taken && is_execute (second_of word).kind then with_return_pushed (address_after_both s.processor) s.processor else s.processor
 
     abbrev to : Bool → ℕ
     to taken = if taken then target else address_after_both s.processor

@@ -1,5 +1,5 @@
 -- Registers of memory at known addresses.
-use Rattle.std.proofs.Common.{◌≡◌, ℕ, ◌+◌, ◌*◌, ◌%◌, ◌<◌, ◌≤◌, List, length, slice_index, inl, inr, refl, ap, ◌∙◌, arith, rules}
+use Rattle.std.proofs.Common.{◌≡◌, ℕ, ◌+◌, ◌*◌, ◌%◌, ◌<◌, ◌≤◌, List, length, slice_index, inl, inr, ap, ◌∙◌, arith, rules}
 use Rattle.h41_arith.specs.DigitRuleLaws.{number_of}
 use Rattle.h41_ram.specs.RegisterMap.{RegisterMap, with_register}
 use Rattle.h41_ram.specs.RegisterMapLaws.{Exists}
@@ -28,5 +28,4 @@ module _ (registers : ℕ) (memory : RegisterMap) (address : ℕ) (has : HasMemo
 -- The address that the digits 2 to 0 of C select.
 pub address_is : (c : List ℕ) (number address : ℕ) → number_of 16 c 0 2 ≡ number → number % 1024 ≡ address
     → (slice_index c 0 + 16 * slice_index c 1 + 256 * slice_index c 2) % 1024 ≡ address
-address_is c number address is low =
-    ap (λ word. word % 1024) (omega (arith, exponent_number c, is)) ∙ low
+address_is c number address is low = ap (λ word. word % 1024) (omega (arith, exponent_number c, is)) ∙ low

@@ -38,16 +38,14 @@ module _ (straight : WordIsExecuted) (s : Nut) (whole : IsWhole s) (is_open : is
   nothing_done next = straight rows.Nop tt refl s whole next goes_on
 
   -- SETF n, CLRF n, ST=0 and ?FSET n.
-  pub status_set : (bit : ℕ) → bit < 14 → IsNext (rows.SetStatus bit) s
-      → StepsTo s (gone (pointers.with_status bit true s.processor) s)
+  pub status_set : (bit : ℕ) → bit < 14 → IsNext (rows.SetStatus bit) s → StepsTo s (gone (pointers.with_status bit true s.processor) s)
   status_set bit is next = straight (rows.SetStatus bit) is refl s whole next goes_on
 
   pub status_cleared : (bit : ℕ) → bit < 14 → IsNext (rows.ClearStatus bit) s
       → StepsTo s (gone (pointers.with_status bit false s.processor) s)
   status_cleared bit is next = straight (rows.ClearStatus bit) is refl s whole next goes_on
 
-  pub status_byte_cleared : IsNext rows.ClearStatusByte s
-      → StepsTo s (gone (pointers.with_status_byte 0 s.processor) s)
+  pub status_byte_cleared : IsNext rows.ClearStatusByte s → StepsTo s (gone (pointers.with_status_byte 0 s.processor) s)
   status_byte_cleared next = straight rows.ClearStatusByte tt refl s whole next goes_on
 
   pub status_tested : (bit : ℕ) → bit < 14 → IsNext (rows.TestStatus bit) s
@@ -73,8 +71,7 @@ module _ (straight : WordIsExecuted) (s : Nut) (whole : IsWhole s) (is_open : is
       → StepsTo s (gone_with (pointers.pointer_of s.processor == place) s.processor s)
   pointer_tested place is next = straight (rows.TestPointer place) is refl s whole next goes_on
 
-  pub pointers_compared : IsNext rows.TestPointersEqual s
-      → StepsTo s (gone_with (s.processor.p == s.processor.q) s.processor s)
+  pub pointers_compared : IsNext rows.TestPointersEqual s → StepsTo s (gone_with (s.processor.p == s.processor.q) s.processor s)
   pointers_compared next = straight rows.TestPointersEqual tt refl s whole next goes_on
 
   -- RCR n, LD@R n, C=C OR A, C=C AND A and CLRABC.
@@ -111,8 +108,7 @@ module _ (straight : WordIsExecuted) (s : Nut) (whole : IsWhole s) (is_open : is
   pub display_off : IsNext rows.DisplayOff s → StepsTo s (gone (registers.with_display false s.processor) s)
   display_off next = straight rows.DisplayOff tt refl s whole next goes_on
 
-  pub display_toggled : IsNext rows.ToggleDisplay s
-      → StepsTo s (gone (registers.with_display (not s.processor.display) s.processor) s)
+  pub display_toggled : IsNext rows.ToggleDisplay s → StepsTo s (gone (registers.with_display (not s.processor.display) s.processor) s)
   display_toggled next = straight rows.ToggleDisplay tt refl s whole next goes_on
 
   pub key_read : IsNext rows.ReadKey s → StepsTo s (gone (registers.with_key_in_c s.keys.ky s.processor) s)

@@ -49,8 +49,7 @@ at_offset : (page index : ℕ) → page < 16 → index < 4096 → offset_of (add
 at_offset page index below less = omega (arith, below, less)
 
 open_there : (page index : ℕ) → 4 ≤ page → page < 16 → index < 4096 → is_system (address_after (page * 4096) index) ≡ false
-open_there page index above below less =
-    le-ltb (address_after (page * 4096) index) first_address (omega (arith, above, below, less))
+open_there page index above below less = le-ltb (address_after (page * 4096) index) first_address (omega (arith, above, below, less))
 
 module _ (pages : PageMap) (page : ℕ) (bank : Bank) (words : List ℕ) (plugged : IsPlugged pages page bank words) where
   pub plugged_some : is_some (image_at pages page bank) ≡ true

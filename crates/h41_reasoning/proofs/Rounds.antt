@@ -42,8 +42,7 @@ module _ (Invariant : ℕ → Nut → Type 0) (After : Nut → Type 0) (most : �
       → AfterRound Invariant After left t → Reaches (most * left) t After
   after_round left t again (inl is) = more_suffice 0 (most * left) t After (omega arith) (at_end t After is)
   after_round left t again (inr (fewer, less, is)) =
-      more_suffice (most * (fewer + 1)) (most * left) t After (mul-le-mul_left most (omega (arith, less)))
-      (again fewer t less is)
+      more_suffice (most * (fewer + 1)) (most * left) t After (mul-le-mul_left most (omega (arith, less))) (again fewer t less is)
 
   one_more : (left : ℕ) → most + most * left ≤ most * (left + 1)
   one_more left = omega (arith, mul-add most left 1)
@@ -71,13 +70,11 @@ by_step most s t After step rest = record {
 -- A sum or a difference that goes to C or A, with the state after it written out.
 pub into_c : (Rule : List ℕ → Bool → Type 0) (s : Nut) (p t : Processor) → IntoC Rule p t → StepsTo s (record s { processor = t })
     → (z : List ℕ) × (carry : Bool) × Rule z carry × StepsTo s (record s { processor = record p { c = z; carry = carry } })
-into_c Rule s p t effect step =
-    (t.c, t.carry, effect.0, subst (λ u. StepsTo s (record s { processor = u })) effect.1 step)
+into_c Rule s p t effect step = (t.c, t.carry, effect.0, subst (λ u. StepsTo s (record s { processor = u })) effect.1 step)
 
 pub into_a : (Rule : List ℕ → Bool → Type 0) (s : Nut) (p t : Processor) → IntoA Rule p t → StepsTo s (record s { processor = t })
     → (z : List ℕ) × (carry : Bool) × Rule z carry × StepsTo s (record s { processor = record p { a = z; carry = carry } })
-into_a Rule s p t effect step =
-    (t.a, t.carry, effect.0, subst (λ u. StepsTo s (record s { processor = u })) effect.1 step)
+into_a Rule s p t effect step = (t.a, t.carry, effect.0, subst (λ u. StepsTo s (record s { processor = u })) effect.1 step)
 
 -- A run of exactly this many steps, with a property at its end.
 pub exactly : (count : ℕ) (s : Nut) (After : Nut → Type 0) → Takes count s After → Reaches count s After

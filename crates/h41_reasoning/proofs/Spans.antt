@@ -40,8 +40,7 @@ pub moved_number : (base a c b d : ℕ) (x z : List ℕ) → c + 1 - a ≡ d + 1
     → ((index : ℕ) → index < c + 1 - a → slice_index z (b + index) ≡ slice_index x (a + index))
     → number_of base z b d ≡ number_of base x a c
 unfolding from_to
-moved_number base a c b d x z size same =
-    ap (number_from base z b) (sym size) ∙ moved_from base a b (c + 1 - a) x z same
+moved_number base a c b d x z size same = ap (number_from base z b) (sym size) ∙ moved_from base a b (c + 1 - a) x z same
 
 pub same_number : (base lo hi : ℕ) (x z : List ℕ) → ((place : ℕ) → lo ≤ place → place ≤ hi → slice_index z place ≡ slice_index x place)
     → number_of base z lo hi ≡ number_of base x lo hi

@@ -21,9 +21,7 @@ pub load_immediate : WordIsExecuted → (s : Nut) (word : ℕ) → IsWhole s →
 load_immediate straight s word whole next second inside =
     subst
     (λ fetched. StepsTo s
-    (record s {
-      processor = at_address (address_after_both s.processor) false (with_word_in_c (word_or_zero fetched) s.processor);
-    }))
+    (record s { processor = at_address (address_after_both s.processor) false (with_word_in_c (word_or_zero fetched) s.processor) }))
     second
     (straight LoadImmediate tt refl s whole next
     (ap (λ fetched. option_or (result_err fetched) (then_some (is_closed (address_after_both s.processor))

@@ -24,8 +24,7 @@ module _ (one_word : OneWordOfRow) (row : Row) (is : IsRow row) (s : Nut) (next 
 
   not_refused : row_refusal row s ≡ None → refused s ≡ None
   not_refused none =
-      ap (λ word. option_or (result_err word) (row_refusal (row_of (word_of s)) s)) next
-      ∙ ap (λ other. row_refusal other s) row_is ∙ none
+      ap (λ word. option_or (result_err word) (row_refusal (row_of (word_of s)) s)) next ∙ ap (λ other. row_refusal other s) row_is ∙ none
 
 -- What is neither refused nor arithmetic.
 straight_effect : (row : Row) → is_arithmetic row ≡ false → (s : Nut) → WordEffect row s (state_after row s)
@@ -37,8 +36,7 @@ straight one_word one_change leaves row is other s whole next none =
     let step : Micro s (state_after row s) =
     record {
       accepted = not_refused one_word row is s next none;
-      effect =
-          subst (λ r. WordEffect r s (state_after row s)) (sym (row_is one_word row is s next)) (straight_effect row other s);
+      effect = subst (λ r. WordEffect r s (state_after row s)) (sym (row_is one_word row is s next)) (straight_effect row other s);
     } in
     record { step = step; whole = leaves s _ whole step }
 
@@ -57,8 +55,7 @@ suc_first : (first second : ℕ) → suc (first + second) ≡ suc first + second
 suc_first first second = omega arith
 
 pub joined : RunsJoin
-joined zero second s t u one two =
-    subst (λ n. Runs n s u) (sym (zero-add second)) (subst (λ v. Runs second v u) one two)
+joined zero second s t u one two = subst (λ n. Runs n s u) (sym (zero-add second)) (subst (λ v. Runs second v u) one two)
 joined (suc first) second s t u one two =
     subst (λ n. Runs n s u) (suc_first first second) (one.0, one.1, joined first second one.0 t u one.2 two)
 

@@ -132,10 +132,12 @@ def runs_to_lines(visit: Visit) -> None:
     browser.click("#program .line:nth-child(4) [data-at='to l0003']")
     visit.row("a run to the same line", "return [present().pos[0], present().numbers[3]]", ["Run 0003", "2"])
     browser.run("return give([...Array(16)].map((_, at) => `break l ${100 + at}\\n`).join(''))")
+    visit.quiet()
     browser.click("#program .line:nth-child(5) [data-at='to l0004']")
     visit.row("no run to a line if there are 16 breakpoints", "return [present().pos[0], present().breaks.length, by('refusal').textContent]",
               ["Run 0003", 16, "! 19 BreakFull  break l 4"])
     browser.run("return give([...Array(16)].map((_, at) => `unbreak l ${100 + at}\\n`).join(''))")
+    visit.quiet()
 
 
 def displays_off(visit: Visit) -> None:

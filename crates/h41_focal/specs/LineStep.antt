@@ -198,7 +198,7 @@ StandsAt pages memory at (Err refusal) =
 abbrev pub Stands : PageMap → Machine → Result (Line × Position) FocalRefusal → Type 0
 Stands pages machine standing = StandsAt pages machine.memory machine.focal.position standing
 
--- The line that stands at the position is executed, or refused.
+-- The line at the position is executed, or refused.
 abbrev pub StepsAs : PageMap → Machine → Result (Line × Position) FocalRefusal
     → Result Left FocalRefusal → Type 0
 StepsAs pages machine (Ok standing) carried =

@@ -110,7 +110,7 @@ CarriesWhole pages how line machine carried =
     × TakesLine pages how line machine own
     × GoesOnFrom pages how machine own carried
 
--- The line that stands at the position is executed, or refused.
+-- The line at the position is executed, or refused.
 abbrev pub CarriesStanding : PageMap → Machine → Result (Line × Position) FocalRefusal
     → Result Left FocalRefusal → Type 0
 CarriesStanding pages machine (Ok standing) carried =

@@ -56,7 +56,7 @@ offset_read mark address first second e f = omega arith
 kind_read : (mark address first : ℕ) → first ≡ 512 * mark + address % 0x1000 / 0x100 → first / 512 % 2 ≡ mark % 2
 kind_read mark address first e = omega arith
 
--- The line of a table entry, of microcode or with the mark of a keystroke function.
+-- The line of a table entry: of a function in microcode, or of a keystroke program.
 entry_line_is_read : (mark : ℕ) (labels : Labels) (source words fill name : List ℕ) (origin entry : ℕ) (line : SourceLine)
     (before behind : List SourceLine) → reading_of line.code ≡ Ok (EntryAt (512 * mark) name) → lines_length before ≡ 2 + 2 * entry
     → SpellsBy labels source origin words (before ++ line ∷ behind)

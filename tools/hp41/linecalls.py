@@ -7,7 +7,7 @@ from typing import TYPE_CHECKING
 from .lineclaims import Term
 from .linelemmas import LAW_NAMES
 from .linecounts import Count
-from .linepoints import PLACES, Point
+from .linepoints import PLACES, RETURNS, Point
 from .linesteps import into, stack_part
 from .lineterms import CALL_NAMED
 
@@ -41,7 +41,8 @@ class CallProof:
         """Returns the values of the variables of the subroutine's theorem."""
         program, callee = self.proof.program, self.callee
         return [*(program.amount(self.point.state.register(name)) for name in callee.contract.numbers),
-                *map(self.whole, callee.contract.wholes), *map(program.number, callee.numbers),
+                *map(self.whole, callee.contract.wholes), *(part for name in callee.contract.counters for part in self.counter(name)),
+                *map(program.number, callee.numbers),
                 *(program.result(into(term, self.point.state)) for term in callee.walk.required)]
 
     def there(self, name: str) -> str:
@@ -65,9 +66,24 @@ class CallProof:
 
     def whole_there(self, name: str) -> list[str]:
         """Returns the proofs that a register contains the whole number that the subroutine requires, as arguments."""
-        term, part = self.point.state.register(name), self.proof.whole_part
-        own = f"IsRegisterOf (pos ({self.whole(name)} * one)) register"
-        return [part.small(term), f"(subst (λ (register : List ℕ). {own}) (sym ({self.there(name)})) {part.is_whole(term)})"]
+        return [self.proof.whole_part.small(self.point.state.register(name)), self.register_there(name)]
+
+    def register_there(self, name: str) -> str:
+        """Returns the proof that a register contains the number that it contains before the subroutine, as an argument."""
+        term = self.point.state.register(name)
+        own = f"IsRegisterOf {self.proof.program.amount(term)} register"
+        return f"(subst (λ (register : List ℕ). {own}) (sym ({self.there(name)})) {self.proof.whole_part.is_whole(term)})"
+
+    def counter(self, name: str) -> tuple[str, str]:
+        """Returns the count and the final count of the counter in a register before the subroutine."""
+        parts = self.proof.counters.parts(self.point.state.register(name))
+        assert parts
+        return parts
+
+    def counter_there(self, name: str) -> list[str]:
+        """Returns the proofs that a register contains the counter that the subroutine requires, as arguments."""
+        term = self.point.state.register(name)
+        return [self.proof.whole_part.small(term), f"few_{term.name.lower()}", self.register_there(name)]
 
     def requirements(self) -> list[str]:
         """Returns the proofs of the subroutine's requirements, as arguments."""
@@ -78,17 +94,20 @@ class CallProof:
             found.append(f"(size_there {self.base} {max(callee.used)} (omega (arith, inside)))")
         found += [self.number_there(name) for name in callee.contract.numbers]
         found += [one for name in callee.contract.wholes for one in self.whole_there(name)]
+        found += [one for name in callee.contract.counters for one in self.counter_there(name)]
         found += [f"is_{program.number(text)}" for text in callee.numbers]
         found += [f"is_{program.result(into(term, self.point.state))}" for term in callee.walk.required]
         found += [f"(omega {self.proof.whole_part.known(self.point.facts)})"] * len(callee.contract.relations)
-        if callee.walk.calls:
-            most = 6 - program.depth
-            more = f"one_return_more returns (Memory l{self.point.at}.next) {most} few (omega arith)"
-            found.append(f"(let more = {more} in omega (arith, more))")
-            for one in callee.subs:
-                found += [self.lines_of(one.name, one.needs_start, list(map(one.as_sub, one.unknowns()))),
-                          f'(name_there {self.base} (codes "{one.label}") at_{one.name.lower()} finds_{one.name.lower()})']
+        found += [self.room()] if callee.depth else []
+        for one in callee.subs:
+            found += [self.lines_of(one.name, one.needs_start, list(map(one.as_sub, one.unknowns()))),
+                      f'(name_there {self.base} (codes "{one.label}") at_{one.name.lower()} finds_{one.name.lower()})']
         return found
+
+    def room(self) -> str:
+        """Returns the proof that there is room for the return addresses of the subroutine's calls, as an argument."""
+        more = f"one_return_more returns (Memory l{self.point.at}.next) {RETURNS - self.proof.program.depth} few (omega arith)"
+        return f"(let more = {more} in omega (arith, more))"
 
     def lines_of(self, name: str, needs_start: bool, unknowns: list[str]) -> str:
         """Returns the proof that memory has the lines of a program with a name, as an argument."""
@@ -168,31 +187,46 @@ class CallProof:
         name = left.name.rsplit("_", 1)[0].upper()
         return name
 
-    def text(self) -> str:
-        """Returns the proof."""
-        proof, after, callee = self.proof, self.after, self.callee
+    def becomes(self, memory: str) -> str:
+        """Returns the proof that a memory after the subroutine is that of the state after the call, as an argument."""
+        proof, after = self.proof, self.after
         lefts = [fact.left for fact in after.facts[len(self.point.facts):] if fact.left]
         proof.bound = {left.name: self.content(self.register_of(left)) for left in lefts}
         stack, contents = proof.stack(after.state), proof.contents(after.state)
         same = " ".join([*(proof.register(after.state.register(name)) for name in PLACES), *(self.same(name) for name in PLACES)])
-        kept = self.kept(len(callee.written()))
+        kept = self.kept(len(self.callee.written()))
         proof.bound = {}
-        called = f"(after_line memory {self.target()} (with_return returns (Memory l{self.point.at}.next)) {proof.lift(self.point.state)})"
-        values = " ".join(self.values())
-        goes_on = (f"{after.name} {proof.names(self.point.facts)} {self.facts()} after (becomes {self.base} got.stack got.contents after "
-                   f"got.becomes {stack} {contents} (same_stack got.stack {same}) (λ n within. {kept}))")
-        if after.state.lift:
-            rest = f"Leaves pages {after.most} (before_line after l{self.point.at}.next false returns b) After"
-            goes_on = f"subst (λ (b : Bool). {rest}) (sym got.lift) ({goes_on})"
+        return (f"(becomes {self.base} got.stack got.contents {memory} got.becomes {stack} {contents} (same_stack got.stack {same}) "
+                f"(λ n within. {kept}))")
+
+    def called(self) -> str:
+        """Returns the state in which the subroutine begins, as an argument."""
+        returns = f"(with_return returns (Memory l{self.point.at}.next))"
+        return f"(after_line memory {self.target()} {returns} {self.proof.lift(self.point.state)})"
+
+    def theorem(self) -> str:
+        """Returns the theorem about the subroutine for the state in which it begins."""
+        callee = self.callee
         names = [one for part in (callee.unknowns(), callee.of_subs()) for one in part]
         given = dict(zip(names, [*self.unknowns(), *callee.of_subs()]))
         numbers, truths = callee.parts()
-        theorem = " ".join([f"of_{callee.name.lower()}.proved {LAW_NAMES} pages {called} count {self.target()}",
-                            *(given[name] for name in [*numbers, *truths]), values, *self.requirements()])
-        text = (f"call_then {self.base} {self.place} {self.most()} {after.most} {self.target()}\n    ({callee.name}_After {called} "
-                f"{values}) After\n    ({self.step()}) (omega (arith, few)) (λ left is. is.returned)\n    ({theorem})\n    "
-                f"(λ after on got. {goes_on})")
-        return self.widened(text)
+        return " ".join([f"of_{callee.name.lower()}.proved {LAW_NAMES} pages {self.called()} count {self.target()}",
+                         *(given[name] for name in [*numbers, *truths]), *self.values(), *self.requirements()])
+
+    def property(self) -> str:
+        """Returns what is true after the subroutine, as an argument."""
+        return f"({' '.join([f'{self.callee.name}_After', self.called(), *self.values()])})"
+
+    def text(self) -> str:
+        """Returns the proof."""
+        proof, after = self.proof, self.after
+        goes_on = f"{after.name} {proof.names(self.point.facts)} {self.facts()} after {self.becomes('after')}"
+        if after.state.lift:
+            rest = f"Leaves pages {after.most} (before_line after l{self.point.at}.next false returns b) After"
+            goes_on = f"subst (λ (b : Bool). {rest}) (sym got.lift) ({goes_on})"
+        text = (f"call_then {self.base} {self.place} {self.most()} {after.most} {self.target()}\n    {self.property()} After\n    "
+                f"({self.step()}) (omega (arith, few)) (λ left is. is.returned)\n    ({self.theorem()})\n    (λ after on got. {goes_on})")
+        return self.widened(text, f"1 + {self.most()} + {after.most}", self.most().more(1).joined(after.most))
 
     def most(self) -> Count:
         """Returns the greatest number of lines of the subroutine, in terms of the registers before it."""
@@ -200,12 +234,13 @@ class CallProof:
 
     def factors(self, part: str) -> list[str]:
         """Returns the whole numbers in a part of the subroutine's number of lines, as they are before it."""
-        return [self.whole(name.removeprefix("whole_").upper()) for name in part.split(" * ")]
+        walk = self.proof.whole_part.whole_walk()
+        return [walk.number_at(name, self.point.state) for name in part.split(" * ")]
 
-    def widened(self, text: str) -> str:
+    def widened(self, text: str, lines: str, count: Count) -> str:
         """Returns the proof for the number of lines that is claimed here, from one for the number that the subroutine's theorem has."""
-        most, after, point = self.most(), self.after.most, self.point
-        if str(most.more(1).joined(after)) == str(point.most) and not most.parts and not after.parts:
+        point = self.point
+        if str(count) == str(point.most) and not count.parts:
             return text
         known = self.proof.whole_part.known(point.facts)
         walk = self.proof.whole_part.whole_walk()
@@ -220,4 +255,30 @@ class CallProof:
                 found = f"(mul-le-mul {found} {more})"
             facts.append(found)
         shown = f"({', '.join(facts)})" if len(facts) > 1 else "arith"
-        return (f"{bounds}more_lines_suffice pages (1 + {most} + {after}) {point.most} _ After (omega {shown})\n    ({text})")
+        return f"{bounds}more_lines_suffice pages ({lines}) {point.most} _ After (omega {shown})\n    ({text})"
+
+
+class JumpProof(CallProof):
+    """Writes the proof of the statement of GTO with a name: the program ends as the one to which it leads."""
+
+    def called(self) -> str:
+        """Returns the state in which the other program begins, as an argument."""
+        return f"(after_line memory {self.target()} returns {self.proof.lift(self.point.state)})"
+
+    def room(self) -> str:
+        """Returns the proof that there is room for the return addresses of the other program's calls, as an argument."""
+        return "(omega (arith, few))"
+
+    def step(self) -> str:
+        """Returns the lemma of GTO."""
+        at, name = self.point.at, self.callee.name.lower()
+        return f'goes_to_named {self.base} {self.place} (codes "{self.callee.label}") at_{name} l{at}.stands finds_{name}'
+
+    def text(self) -> str:
+        """Returns the proof."""
+        lifted = " got.lift" if self.proof.program.walk.leaves_lift() else ""
+        ends = (f"{self.after.name} {self.proof.names(self.point.facts)} {self.facts()} left got.returned "
+                f"{self.becomes('left.machine.memory')}{lifted}")
+        text = (f"go_then {self.base} {self.place} {self.most()} {self.target()}\n    {self.property()} After\n    ({self.step()})\n    "
+                f"({self.theorem()})\n    (λ left got. {ends})")
+        return self.widened(text, f"1 + {self.most()}", self.most().more(1))

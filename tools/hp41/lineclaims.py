@@ -17,7 +17,7 @@ LISTED = re.compile(r"[ \t]*(?:[0-9]{1,4}[.:)]?[ \t]+)?(?:#|;|//)[ \t]*")
 WORD = re.compile("[A-Za-z]+")
 
 # Functions of one number, in the form NAME(NUMBER).
-FUNCTIONS = ("ABS", "CHS", "SIGN", "X^2", "SQRT", "1/X", "INT", "COUNT", "FINAL")
+FUNCTIONS = ("ABS", "CHS", "SIGN", "X^2", "SQRT", "1/X", "INT", "FRC", "COUNT", "FINAL")
 ERRORS = ("OUT OF RANGE", "DATA ERROR")
 RELATIONS = ("<=", ">=", "<>", "=", "<", ">")
 OPPOSITE = {"<": ">=", ">=": "<", "<=": ">", ">": "<=", "=": "<>", "<>": "="}

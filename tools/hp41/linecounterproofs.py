@@ -69,6 +69,24 @@ class CounterProof:
             f"    let found = counter_in registers {parts[0]} {parts[1]} small few in",
             f"    {proof.go_on(point, after, step, f'{names} found.register found.is small few')}"]))
 
+    def fraction(self, point: Point) -> None:
+        """Writes the statement of FRC of a counter."""
+        proof, after, names = self.proof, point.after[0], self.proof.names(point.facts)
+        before, new = self.parts(point.state.x), after.facts[-1].left
+        parts = self.parts(new) if new else None
+        assert before and parts
+        rest = f"(pos ({parts[0]} * one + {parts[1]} * 10 ^ 105))"
+        step = (f"works_on_one {proof.common(point)} {proof.lift(point.state)} functions.FractionPart (OfOne ones.Fraction X) found.register "
+                f"refl l{point.at}.stands (made_fraction {proof.stack(point.state)} memory {proof.program.amount(point.state.x)} "
+                f"{proof.holds(point.state.x)} found.ten found.register found.of_ten {rest} (fraction_is_counter {before[0]} {before[1]} "
+                "few) (subst (λ (z : ℤ). Nearest z 1 (Ok found.ten)) found.units_is (itself found.ten)))")
+        proof.put(point, "\n".join([
+            f"{point.name} : {proof.given(point.facts)}{proof.leaves(point)}", f"{point.name} {names} memory has =",
+            f"    let small : {parts[0]} < 10 ^ 7 = omega arith in",
+            f"    let few : {parts[1]} < 1000 = omega {proof.whole_part.known(point.facts)} in",
+            f"    let found = counter_in registers {parts[0]} {parts[1]} small few in",
+            f"    {proof.go_on(point, after, step, f'{names} found.register found.is small few')}"]))
+
     def count(self, point: Point) -> None:
         """Writes the statement of ISG or DSE: both ways."""
         proof, names, known = self.proof, self.proof.names(point.facts), self.proof.whole_part.known(point.facts)

@@ -4,7 +4,7 @@ from __future__ import annotations
 from dataclasses import replace
 from decimal import Decimal
 
-from .lineclaims import LoopContract, Term
+from .lineclaims import ZERO, LoopContract, Term
 from .lineregisters import COUNTS, MOST_REGISTERS, RegisterLine
 from .linepoints import Fact, Point
 from .linesteps import Walk, value_of
@@ -39,6 +39,9 @@ class CounterWalk(Walk):
             return self.parts_of(term.args[0]) if term.args else None
         if term.op == "counter":
             return term.args[0], term.args[1]
+        if term.op == "FRC":
+            parts = self.parts_of(term.args[0])
+            return (ZERO, parts[1]) if parts else None
         if term.op == "old" and term.name in self.contract.counters:
             name = term.name
             return (Term("whole", (), f"count_{name.lower()}", f"COUNT(old {name})"),
@@ -53,6 +56,8 @@ class CounterWalk(Walk):
         parts = self.parts_of(term.args[0])
         if term.op == "INT" and not parts:
             return self.nat(term.args[0], bound)
+        if term.op == "FRC":
+            return None if parts or self.nat(term.args[0], bound) is None else "0"
         return self.nat(parts[1 if term.op == "FINAL" else 0], bound) if parts else None
 
     def nat(self, term: Term, bound: int = 0) -> str | None:

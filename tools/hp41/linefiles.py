@@ -3,8 +3,10 @@ from __future__ import annotations
 
 import os
 
+from .linelemmas import SHARED, shared
 from .lineproofs import ProgramProof
 from .linetheorems import Program, spec_of
+from .needed import trimmed
 from .statements import CRATE
 
 LAWS = {"h41_decimal::laws": ("decimal_is_its_nearest", "register_is_determined"),
@@ -42,11 +44,12 @@ def write_crate(folder: str, programs: list[Program], title: str) -> dict[str, P
     """Writes the crate into a folder. Returns the proofs by the paths of their files."""
     modules = "".join(f"pub mod Of_{one.name}\n" for one in programs)
     files = {"src/lib.rt": f"//! Theorems about the programs of {title}.\n#![tactic(auto)]\n\npub mod functions;\n",
-             "specs/Lib.antt": modules, "proofs/Lib.antt": modules, "src/functions.rt": functions_of(programs)}
+             "specs/Lib.antt": modules, "proofs/Lib.antt": f"pub mod {SHARED}\n{modules}", f"proofs/{SHARED}.antt": shared(),
+             "src/functions.rt": functions_of(programs)}
     proofs = {}
     for one in programs:
         name, proof = function_of(one), ProgramProof(one)
-        files[f"specs/Of_{one.name}.antt"] = spec_of(one)
+        files[f"specs/Of_{one.name}.antt"] = trimmed(spec_of(one))
         files[f"proofs/Of_{one.name}.antt"] = proof.text()
         files[f"proofs/functions/{name}/Answers.antt"] = answer_of(
             name, f"use Rattle.{CRATE}.proofs.Of_{one.name}.{{proved}}\n", f"proved {ANSWER}")

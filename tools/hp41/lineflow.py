@@ -5,7 +5,7 @@ import re
 from typing import TYPE_CHECKING, Callable, Iterable
 
 from .codes import NotProved
-from .lineterms import GO_TO, TEST, ProgramLine
+from .lineterms import GO_TO, GO_TO_NAMED, TEST, ProgramLine
 
 if TYPE_CHECKING:
     from .linepoints import Call
@@ -26,7 +26,7 @@ class Flow:
     def after(self, at: int) -> list[int]:
         """Returns the places of the lines that can follow a line."""
         text = self.lines[at].text
-        if text in ENDS:
+        if text in ENDS or GO_TO_NAMED.fullmatch(text):
             return []
         if GO_TO.fullmatch(text):
             label = f"LBL {text[4:]}"

@@ -98,7 +98,7 @@ class WholeProof:
             is_number = f"(record {{ exponent = record {{ biased = 99; in_range = omega arith; }}; biased = refl; typed = {typed}; }})"
             return f"enters_number {common} {characters_of(text)} found.ten found.register {is_number} found.of_ten {stands} {lift}"
         assert point.result
-        if text in ("INT", "MOD"):
+        if text in ("INT", "FRC", "MOD"):
             return self.part_of_whole(point)
         value, lemma, exact, order = {"+": ("OfTwo twos.Sum Y X", "added", "sum_whole", ""),
                                       "-": ("OfTwo twos.Difference Y X", "subtracted", "difference_whole", "order ")}[point.result.op]
@@ -111,17 +111,20 @@ class WholeProof:
                 f"{proof.holds(right)} found.ten found.register found.of_ten ({nearest}))")
 
     def part_of_whole(self, point: Point) -> str:
-        """Returns the lemma of INT or MOD."""
+        """Returns the lemma of INT, FRC or MOD."""
         proof, result, x = self.proof, point.result, point.state.x
         assert result
         common, stands, known = proof.common(point), f"l{point.at}.stands", f"{proof.stack(point.state)} memory"
-        begin = f"works_on_{'one' if result.op == 'INT' else 'two'} {common} {proof.lift(point.state)} functions.{PLAIN[result.op]}"
-        if result.op == "INT":
+        begin = f"works_on_{'two' if result.op == 'MOD' else 'one'} {common} {proof.lift(point.state)} functions.{PLAIN[result.op]}"
+        if result.op != "MOD":
             parts = proof.counters.parts(x)
             is_part = f"(count_is {parts[0]} {parts[1]} (omega {self.known(point.facts)}))" if parts else f"(whole_part {self.nat(x)})"
+            value, lemma = "IntegerPart", "made_whole"
+            if result.op == "FRC":
+                value, lemma, is_part = "Fraction", "made_fraction", f"(no_fraction {self.nat(x)})"
             part = f"(pos ({self.nat(result)} * one))"
             nearest = "(subst (λ (z : ℤ). Nearest z 1 (Ok found.ten)) found.units_is (itself found.ten))"
-            return (f"{begin} (OfOne ones.IntegerPart X) found.register refl {stands} (made_whole {known} {proof.program.amount(x)} "
+            return (f"{begin} (OfOne ones.{value} X) found.register refl {stands} ({lemma} {known} {proof.program.amount(x)} "
                     f"{proof.holds(x)} found.ten found.register found.of_ten {part} {is_part} {nearest})")
         left, right = result.args
         y, divisor = self.nat(left), self.nat(right)
@@ -151,7 +154,7 @@ class WholeProof:
                 f"    elim (cases_lt {first} {second}) ["]
         for after, way in zip(point.after, ("inl", "inr")):
             truth = self.truth(point, text, way == "inl", first, second)
-            step = proof.test_step(point, text, truth, after.at == point.at + 1)
+            step = proof.tests.step(point, text, truth, after.at == point.at + 1)
             rows.append(f"      | {way} which ↦ {proof.go_on(point, after, step, f'{names} which')}")
         proof.put(point, "\n".join([*rows, "    ]"]))
 

@@ -5,6 +5,7 @@ from dataclasses import replace
 from typing import TYPE_CHECKING
 
 from .lineclaims import ZERO
+from .lineterms import SILENT
 
 if TYPE_CHECKING:
     from .linepoints import State
@@ -25,4 +26,4 @@ def moved(text: str, state: State) -> State:
         return replace(state, x=ZERO, lift=False)
     if text == "CLST":
         return replace(on, x=ZERO, y=ZERO, z=ZERO, t=ZERO)
-    return state
+    return on if text in SILENT else state

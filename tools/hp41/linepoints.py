@@ -10,6 +10,9 @@ from .linecounts import Count
 if TYPE_CHECKING:
     from .linetheorems import Program
 
+# The calculator keeps this many return addresses.
+RETURNS = 6
+
 # The registers of the stack as the definitions name them.
 PLACES = {"T": "t", "Z": "z", "Y": "y", "X": "x", "L": "last"}
 
@@ -113,8 +116,8 @@ class Loop:
 @dataclass
 class Point:
     """A line that is reached, with the state before it and what is known. `kind` says what happens: `line`, `lift` (it depends on stack
-    lift), `test`, `outcome` (the result may be out of range), `call` or `end`; with whole numbers also `exact`, `compare`, `count`, and at
-    the label of a loop `enter` and `again`. `after` has the points after it, and `own` the number of lines before them. `register` is the
+    lift), `test`, `outcome` (the result may be out of range), `call`, `end`, or `jump` for GTO with a name, after which `left` is the end;
+    with whole numbers also `exact`, `fraction`, `compare`, `count`, and at the label of a loop `enter` and `again`. `after` has the points after it, and `own` the number of lines before them. `register` is the
     data register that the line uses. `ways` has the greatest numbers of lines: 0 up to the end of the program, and others up to the label
     of the loop with this number. `loops` are the loops in which the point is, the outermost first. `entered` is the loop that begins here,
     with what falls there, and `again` the one of which a round ends here."""

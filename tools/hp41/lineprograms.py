@@ -11,6 +11,7 @@ from .decks import Failure, block, bytes_of, ended, hexadecimal, refused, run, s
 from .functions import Functions
 from .lineclaims import LISTED, OPPOSITE, Condition, LineContract, LoopContract, contract_before, keyword_of, plain
 from .linepoints import Call, Point
+from .linesteps import LAST
 from .linetheorems import Program
 from .lineterms import LABEL, LOCAL, ProgramLine
 from .listings import Listing
@@ -18,6 +19,10 @@ from .memory import MAIN_START, Memory
 from .spellings import read_tables
 
 TOP = MAIN_START + 320
+# Why a program that leads back to itself is not supported.
+AGAIN = {"XEQ": "a subroutine that calls itself is not supported",
+         "GTO": "GTO with a name does not lead back to the program itself: put a local label there, with claims about a loop, see Loops of "
+                "programs in docs/PROVE-YOUR-MODULE.md"}
 # The lines after the program: RTN and .END.
 ADDED = 2
 # The first bytes of lines of two and of three bytes, whose last byte can be 00.
@@ -188,7 +193,7 @@ class Finder:
             raise NotProved(line.number, f"`{line.text}`: {label} has no claims: write comments before it that say what it requires and "
                                          "leaves")
         if found in self.running:
-            raise NotProved(line.number, f"`{line.text}`: a subroutine that calls itself is not supported")
+            raise NotProved(line.number, f"`{line.text}`: {AGAIN[line.text[:3]]}")
         return Call(self.program(found), found - first if LOCAL.fullmatch(label) else None)
 
 
@@ -218,7 +223,7 @@ def mismatches(program: Program) -> list[Mismatch]:
     """Returns the claims that do not follow from the values that the lines compute, with the state that is reached."""
     found: dict[str, Mismatch] = {}
     for point in program.walk.points():
-        if point.kind != "end":
+        if point.kind not in LAST:
             continue
         for one, value, condition in program.equations:
             reached = point.state.register(one.register)

@@ -2,18 +2,19 @@
 from __future__ import annotations
 
 from .lineclaims import Condition, Term
-from .linecalls import CallProof
+from .linecalls import CallProof, JumpProof
 from .linecounterproofs import CounterProof
 from .lineloops import WholeProof
 from .lineregisterproofs import RegisterProof
 from .lineregisters import register_line
-from .linelemmas import HELPERS, LAWS, LAW_NAMES, LAW_TYPES, ONE, PROOF_USED, SIMPLE, TESTS, TWO, chosen
+from .linelemmas import LAWS, LAW_NAMES, LAW_TYPES, ONE, SIMPLE, TWO, chosen, imports_of
 from .linesearches import Searches
+from .linetestproofs import TestProof
 from .linepoints import PLACES, Fact, Point, State
 from .linesteps import EXACT
-from .linetheorems import FAULTS, USED, Program, new_results
-from .lineterms import GO_TO, LOCAL, NAMED, PLAIN, characters_of, kinds_of, term_of
-from .statements import CRATE
+from .linetheorems import FAULTS, Program, new_results
+from .lineterms import GO_TO, LOCAL, NAMED, PLAIN, SILENT, characters_of, kinds_of, term_of
+from .needed import needed, words_in
 
 
 class ProgramProof:
@@ -27,7 +28,7 @@ class ProgramProof:
         self.bound: dict[str, str] = {}
         self.parts: list[str] = []
         self.rows: list[tuple[str, int, str]] = []
-        self.whole_part, self.counters = WholeProof(self), CounterProof(self)
+        self.whole_part, self.counters, self.tests = WholeProof(self), CounterProof(self), TestProof(self)
         self.define(program.walk.start)
 
     # Values.
@@ -200,6 +201,10 @@ class ProgramProof:
         """Writes the statement of a line that counts a counter."""
         self.counters.count(point)
 
+    def define_fraction(self, point: Point) -> None:
+        """Writes the statement of FRC of a counter."""
+        self.counters.fraction(point)
+
     def define_typed(self, point: Point) -> None:
         """Writes the statement of a number line with a counter."""
         self.counters.typed(point)
@@ -250,34 +255,23 @@ class ProgramProof:
         self.put(point, f"{point.name} : {self.given(point.facts)}{self.leaves(point)}\n{point.name} {names} memory has =\n    "
                         f"{CallProof(self, point).text()}")
 
+    def define_jump(self, point: Point) -> None:
+        """Writes the statement of GTO with a name."""
+        self.put(point, f"{point.name} : {self.given(point.facts)}{self.leaves(point)}\n{point.name} {self.names(point.facts)} memory has"
+                        f" =\n    {JumpProof(self, point).text()}")
+
+    def define_left(self, point: Point) -> None:
+        """Writes the statement that the claims are true after the program to which GTO with a name leads."""
+        names, is_lifted = self.names(point.facts), self.program.walk.leaves_lift()
+        memory = f"HasBecome old {self.stack(point.state)} {self.contents(point.state)} left.machine.memory"
+        head = (f"{point.name} : {self.given(point.facts)}(left : Left) → HasReturned start left → {memory} → "
+                f"{'left.machine.focal.lift ≡ true → ' if is_lifted else ''}After left\n"
+                f"{point.name} {names} left returned has{' lifted' if is_lifted else ''} =")
+        self.put_claims(point, head, "", ("returned", "has", "lifted"))
+
     def define_test(self, point: Point) -> None:
         """Writes the statement of a test: both ways."""
-        assert point.condition
-        names, by, truth = self.names(point.facts), f"{point.name}_by", self.truth(point.condition)
-        rows = [f"{by} : {self.given(point.facts)}(on : Bool) → {truth} ≡ on → {self.leaves(point)}"]
-        text = self.program.lines[point.at].text
-        is_turned = text[1] == "#"
-        for after in point.after:
-            is_next = after.at == point.at + 1
-            on = is_next != is_turned
-            fact = self.test_step(point, text, "is" if not is_turned else f"turned {truth} {'true' if on else 'false'} is", is_next)
-            rows.append(f"{by} {names} {'true' if on else 'false'} is memory has =\n    {self.go_on(point, after, fact, f'{names} is')}")
-        rows += ["", f"{point.name} : {self.given(point.facts)}{self.leaves(point)}",
-                 f"{point.name} {names} memory has = {by} {names} {truth} refl memory has"]
-        self.put(point, "\n".join(rows))
-
-    def test_step(self, point: Point, text: str, fact: str, is_next: bool) -> str:
-        """Returns the lemma of a test that continues at the next line, or after it."""
-        condition, numbers, tells = TESTS[text]
-        stack, state = self.stack(point.state), point.state
-        values = [state.x] if text[-2] == "0" else [state.y, state.x]
-        known = " ".join([stack, "memory", *map(self.program.amount, values), *map(self.holds, values)]) if numbers else ""
-        are = f"({numbers} {known})" if numbers else "refl"
-        tell = f"({tells} {known} ∙ {fact})" if tells else f"({fact})"
-        lemma = "tests_true" if is_next else "tests_false"
-        skipped = "" if is_next else f"_ l{point.at + 1}.next l{point.at + 1}.stands "
-        return (f"{lemma} {self.common(point)} {self.lift(state)} functions.{PLAIN[text]} ({condition}) refl l{point.at}.stands {are} "
-                f"{skipped}{tell}")
+        self.tests.both(point)
 
     def define_outcome(self, point: Point) -> None:
         """Writes the statement of a function whose result may be out of range."""
@@ -331,6 +325,8 @@ class ProgramProof:
             return self.computing(point, point.result)
         if text in SIMPLE:
             return f"{SIMPLE[text]} {common} {lift} {stands}"
+        if text in SILENT:
+            return f"only_lifts {common} {lift} functions.{PLAIN[text]} refl {stands}"
         if text in ("CLX", "CLST"):
             zero = "(register_of registers Zero)"
             return f"{'clears_x' if text == 'CLX' else 'clears_stack'} {common} {lift} {zero}.0 {zero}.1 {stands}"
@@ -375,16 +371,22 @@ class ProgramProof:
         text, names = program.lines[point.at].text, self.names(point.facts)
         back = (f"returns_back {self.common(point)} {self.lift(state)} lists l{point.at}.stands" if text == "RTN" else
                 f"ends_back {self.common(point)} {self.lift(state)} lists link_{point.at} marks_{point.at} l{point.at}.stands")
-        stack, contents = self.stack(state), self.contents(state)
-        others = " ".join(["n", *(f"other_{number}" for number in program.written())])
-        fields = ["returned = back.returned;", f"stack = {stack};", f"contents = {contents};",
-                  f"becomes = subst (λ (m : RegisterMap). HasBecome old {stack} {contents} m) (sym back.memory) has;",
-                  f"others = λ {others}. {self.unchanged(state)};", *(["lift = back.lift;"] if program.walk.leaves_lift() else [])]
         more = f"more_lines_suffice pages 1 {point.most} _ After (omega arith)\n    (" if point.most.parts else ""
         head = (f"{point.name} : {self.given(point.facts)}{self.leaves(point)}\n{point.name} {names} memory has =\n"
-                f"    let back = {back} in\n    {more}by_last pages _ back.left After back.step\n    "
-                f"{'(inl ' if program.contract.errors else ''}record {{")
-        self.put(point, "\n".join([head, *(f"      {one}" for one in fields)]))
+                f"    let back = {back} in\n    {more}by_last pages _ back.left After back.step")
+        memory = f"HasBecome old {self.stack(state)} {self.contents(state)} m"
+        becomes = f"subst (λ (m : RegisterMap). {memory}) (sym back.memory) has"
+        self.put_claims(point, head, more, ("back.returned", becomes, "back.lift"))
+
+    def put_claims(self, point: Point, head: str, more: str, proofs: tuple[str, str, str]) -> None:
+        """Adds the statement of the end of the program: what is true there, by the proofs of where it returns to, of what memory has
+        become, and that stack lift is on. `more` is what was opened before."""
+        program, state = self.program, point.state
+        returned, becomes, lift = proofs
+        others = " ".join(["n", *(f"other_{number}" for number in program.written())])
+        fields = [f"returned = {returned};", f"stack = {self.stack(state)};", f"contents = {self.contents(state)};", f"becomes = {becomes};",
+                  f"others = λ {others}. {self.unchanged(state)};", *([f"lift = {lift};"] if program.walk.leaves_lift() else [])]
+        self.put(point, "\n".join([head, f"    {'(inl ' if program.contract.errors else ''}record {{", *(f"      {one}" for one in fields)]))
         for at in range(len(program.equations)):
             one = program.equations[at][0]
             small = [f"small_{at + 1} = omega {self.whole_part.known(point.facts)};"] if program.is_sum(at) else []
@@ -428,10 +430,10 @@ class ProgramProof:
     def text(self) -> str:
         """Returns the file of the proof."""
         program = self.program
-        head = [f"-- The proof that {program.shown} leaves what is claimed.", USED, PROOF_USED + program.imported("After", "lines") +
-                "".join(f"use Rattle.{CRATE}.proofs.Of_{name} as of_{name.lower()}\n" for name in program.callees()),
-                f"use Rattle.{CRATE}.specs.Of_{program.name}.{{{program.name}_After, {program.name}_Left, {program.name}_Returns, "
-                f"{program.name}_lines}}", "", HELPERS, self.outer(), Searches(program).head()]
+        lines = [self.outer(), Searches(program).head()]
+        words = words_in([*lines, *self.parts, self.whole()])
+        imports = [one for line in imports_of(program) for one in needed(line, words)]
+        head = [f"-- The proof that {program.shown} leaves what is claimed.", *imports, "", *lines]
         before = "\n".join(head).count("\n") + 1
         deep = "      " if program.needs_start else "    "
         body = "\n\n".join("\n".join(deep + row if row else row for row in part.split("\n")) for part in self.parts)

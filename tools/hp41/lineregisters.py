@@ -56,7 +56,7 @@ def is_count(text: str) -> bool:
 def needs_counters(text: str) -> bool:
     """Returns whether a line can only be followed with whole numbers and counters."""
     found = register_line(text)
-    return text in ("INT", "MOD") or is_count(text) or found is not None and found.is_indirect
+    return text in ("INT", "FRC", "MOD") or is_count(text) or found is not None and found.is_indirect
 
 
 def registers_in(texts: list[str], is_written: bool = False) -> list[int]:

@@ -13,25 +13,28 @@ from .linecounts import Count
 from .linemoves import moved
 from .linepoints import Call, Fact, Loop, NeedsWholes, PLACES, Point, START, State
 from .lineregisters import COUNTS, INTO, RegisterLine, register_line, registers_in
-from .lineterms import CALL, CALL_NAMED, GO_TO, NUMBER, TEST, ProgramLine, term_of
+from .lineterms import CALL, CALL_NAMED, GO_TO, GO_TO_NAMED, NUMBER, TEST, ProgramLine, term_of
 
 if TYPE_CHECKING:
     from .linetheorems import Program
 
-OF_TWO, OF_ONE = ("+", "-", "*", "/", "MOD"), ("X^2", "CHS", "ABS", "SQRT", "1/X", "INT", "SIGN")
+OF_TWO, OF_ONE = ("+", "-", "*", "/", "MOD"), ("X^2", "CHS", "ABS", "SQRT", "1/X", "INT", "FRC", "SIGN")
 EXACT = ("CHS", "ABS", "SIGN")
-WHOLE_PARTS = ("INT", "MOD", "COUNT", "FINAL")
+WHOLE_PARTS = ("INT", "FRC", "MOD", "COUNT", "FINAL")
 ENDS = ("RTN", "END")
+# The kinds of points at which a program has ended.
+LAST = ("end", "left")
 MOST_POINTS = 400
 
 # What to write in place of a line that is not supported.
 BRANCH = re.compile("(GTO|XEQ) ")
-WHOLE_ONLY = {"INT": "it is not known that X contains a whole number or a counter: add to `requires` for example `X is a whole number`",
+NO_PART = "it is not known that X contains a whole number or a counter: add to `requires` for example `X is a whole number`"
+WHOLE_ONLY = {"INT": NO_PART, "FRC": NO_PART,
               "MOD": "it is not known that Y contains a whole number and X the number of a number line, from 1 on: add to `requires` for "
                      "example `Y is a whole number`, and put a number line before MOD"}
 NO_LOOP = ("this line leads back, and nothing says that the loop ends: put comments `invariant` and `decreases` before the label, see "
            "Loops of programs in docs/PROVE-YOUR-MODULE.md")
-NO_BRANCH = ("only GTO 00 to GTO 14, XEQ 00 to XEQ 14 and XEQ with a name are supported: prove the lines up to it, or write the proof by "
+NO_BRANCH = ("only GTO 00 to GTO 14, XEQ 00 to XEQ 14, and GTO and XEQ with a name are supported: prove the lines up to it, or write the proof by "
              "hand, see A theorem of your own in docs/PROVE-YOUR-MODULE.md")
 NO_START = ("the label with the claims is not the first line of its program, so it is not known where this line leads: put END before "
             "that label")
@@ -97,7 +100,7 @@ class Walk:
 
     def leaves_lift(self) -> bool:
         """Returns whether stack lift is on after the program, on all paths."""
-        return all(point.state.lift for point in self.points() if point.kind == "end")
+        return all(point.state.lift for point in self.points() if point.kind in LAST)
 
     def fail(self, at: int, why: str) -> NotProved:
         """Returns the error that a line cannot be proved."""
@@ -138,7 +141,7 @@ class Walk:
     def check(self, at: int) -> None:
         """Checks that a line is supported."""
         text = self.lines[at].text
-        if BRANCH.match(text) and not any(form.fullmatch(text) for form in (GO_TO, CALL, CALL_NAMED)):
+        if BRANCH.match(text) and not any(form.fullmatch(text) for form in (GO_TO, CALL, CALL_NAMED, GO_TO_NAMED)):
             raise self.fail(at, NO_BRANCH)
         if term_of(text, at) is None:
             raise self.fail(at, "this line is not supported: see the supported lines in docs/PROVE-YOUR-MODULE.md")
@@ -155,6 +158,8 @@ class Walk:
             self.come(made, {"LASTX": state.last, "PI": PI}.get(text) or Term("number", (), text))
         elif GO_TO.fullmatch(text):
             made.after = [self.point(self.target(at, text), state, made.facts)]
+        elif GO_TO_NAMED.fullmatch(text):
+            self.jump(made)
         elif text.startswith("XEQ"):
             self.call(made)
         elif TEST.fullmatch(text):
@@ -267,15 +272,29 @@ class Walk:
         assert self.called
         if CALL.fullmatch(self.lines[made.at].text) and not self.is_start:
             raise self.fail(made.at, NO_START)
-        found = self.calls.get(made.at) or self.called(made.at)
-        self.calls[made.at] = found
-        made.kind = "call"
+        found = self.follow_call(made, "call")
         if found.place is not None:
             self.last = max(self.last, found.place + len(found.program.lines) - 1)
-        self.check_call(made, found.program)
-        made.own = self.lines_of(found.program, made.state, made.facts).more(1)
         state, facts = left_by(found.program, made.state, self.count)
         made.after = [self.point(made.at + 1, state, (*made.facts, *facts))]
+
+    def jump(self, made: Point) -> None:
+        """Adds the point after the program to which GTO with a name leads: this program has ended, and its registers contain what the
+        claims of the other one say."""
+        found = self.follow_call(made, "jump")
+        state, facts = left_by(found.program, made.state, self.count)
+        self.count += 1
+        known = (*made.facts, *(fact for fact in facts if fact.left))
+        made.after = [Point(f"p{self.count}", made.at, state, known, "left", [], ways={0: Count(0)}, loops=self.inside())]
+
+    def follow_call(self, made: Point, kind: str) -> Call:
+        """Returns the program that a line calls, or to which it leads, if its requirements are met."""
+        assert self.called
+        found = self.calls.get(made.at) or self.called(made.at)
+        self.calls[made.at], made.kind = found, kind
+        self.check_call(made, found.program)
+        made.own = self.lines_of(found.program, made.state, made.facts).more(1)
+        return found
 
     def lines_of(self, callee: Program, state: State, facts: tuple[Fact, ...]) -> Count:
         """Returns the greatest number of lines of a subroutine."""
@@ -291,7 +310,7 @@ class Walk:
                                      f"`or {contract.errors[0]}`, because only a subroutine that always returns can be called")
         if contract.is_lift_on and not made.state.lift:
             raise self.fail(made.at, f"{name} requires that stack lift is on, which is not known here: remove this requirement, or put a "
-                                     "line before XEQ that turns stack lift on, for example RCL")
+                                     "line before this one that turns stack lift on, for example RCL")
         for register in contract.numbers:
             term = made.state.register(register)
             if not self.is_number(term):
@@ -333,6 +352,8 @@ def left_by(callee: Program, state: State, count: int) -> tuple[State, list[Fact
         value = next((value for one, value, condition in callee.equations if one.register == register and not condition), None)
         if value and value.op == "old":
             return state.register(value.name)
+        # A counter that the subroutine leaves is not followed.
+        value = None if value and callee.walk.parts_of(value) else value
         found = Term("left", (into(value, state).plain(),) if value else (), f"{register.lower()}_{count}",
                      f"what {callee.shown} leaves in {register}")
         facts.append(Fact(left=found))

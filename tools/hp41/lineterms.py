@@ -8,7 +8,8 @@ from .lineregisters import register_line
 
 # Functions of one byte, with their names in the definitions.
 PLAIN = {"+": "Add", "-": "Subtract", "*": "Multiply", "/": "Divide", "X^2": "Square", "CHS": "ChangeSign", "ABS": "AbsoluteValue",
-         "SQRT": "SquareRoot", "1/X": "Reciprocal", "INT": "IntegerPart", "MOD": "Modulo", "CLST": "ClearStack", "PI": "Pi", "SIGN": "Signum",
+         "SQRT": "SquareRoot", "1/X": "Reciprocal", "INT": "IntegerPart", "FRC": "FractionPart", "MOD": "Modulo", "CLST": "ClearStack",
+         "PI": "Pi", "SIGN": "Signum", "BEEP": "Beep", "PSE": "Pause", "ADV": "Advance",
          "X<>Y": "ExchangeXY", "RDN": "RollDown", "R^": "RollUp", "LASTX": "LastX", "CLX": "ClearX", "ENTER^": "Enter", "RTN": "Return",
          "X<Y?": "TestXLessThanY", "X>Y?": "TestXGreaterThanY", "X<=Y?": "TestXAtMostY", "X=Y?": "TestXEqualsY",
          "X#Y?": "TestXDiffersFromY", "X=0?": "TestXZero", "X#0?": "TestXNotZero", "X>0?": "TestXPositive", "X<0?": "TestXNegative",
@@ -20,6 +21,9 @@ LOCAL = re.compile("LBL (0[0-9]|1[0-4])")
 GO_TO = re.compile("GTO (0[0-9]|1[0-4])")
 CALL = re.compile("XEQ (0[0-9]|1[0-4])")
 CALL_NAMED = re.compile(r'XEQ "([ !#-\[\]-~]*)"')
+GO_TO_NAMED = re.compile(r'GTO "([ !#-\[\]-~]*)"')
+# Functions that have no effect in the bench, except that they turn stack lift on.
+SILENT = ("BEEP", "PSE", "ADV")
 NUMBER = re.compile("(?!-$)[-0-9.E]+")
 TEST = re.compile(r"X(?:<|>|<=|=|#)[Y0]\?")
 LABEL = re.compile('LBL ".*"')
@@ -55,9 +59,10 @@ def term_of(text: str, index: int) -> str | None:
         return f"lines.ShortGoTo {int(text[4:])} distance_{index}"
     if CALL.fullmatch(text):
         return f"lines.BranchTo Execute distance_{index} backwards_{index} {int(text[4:])}"
-    called = CALL_NAMED.fullmatch(text)
-    if called:
-        return f'lines.Named ExecuteName (codes "{called[1]}")'
+    for form, name in ((CALL_NAMED, "ExecuteName"), (GO_TO_NAMED, "GoToName")):
+        found = form.fullmatch(text)
+        if found:
+            return f'lines.Named {name} (codes "{found[1]}")'
     if text in PLAIN:
         return f"lines.Plain functions.{PLAIN[text]}"
     if text == "END":

@@ -11,14 +11,11 @@ from .linear import contradicts
 from .linebounds import rows_of
 from .linecounts import Count
 from .lineregisters import needs_counters, registers_in
-from .linepoints import PLACES, Call, NeedsWholes, Point
+from .linepoints import PLACES, RETURNS, Call, NeedsWholes, Point
 from .linesteps import EXACT, Walk, asked, written_in
 from .lineterms import LOCAL, NUMBER, TRUTH, ProgramLine, characters_of, kinds_of, term_of, unknowns_of, values_of
 from .linewholes import SIGNS, WholeWalk
 from .statements import CRATE
-
-# The calculator keeps this many return addresses.
-RETURNS = 6
 
 FAULTS = {"OUT OF RANGE": "OutOfRange", "DATA ERROR": "DataError"}
 
@@ -28,7 +25,7 @@ use Rattle.std.specs.Prelude.{ℤ, pos, neg_ℤ, ◌+ℤ◌, ◌-ℤ◌, ◌*ℤ
 use Rattle.h41_codes.specs.declared.characters.Character.TheVariants as characters
 use Rattle.h41_codes.specs.declared.functions.Branch.TheVariants.{Execute}
 use Rattle.h41_codes.specs.declared.functions.Function.TheVariants as functions
-use Rattle.h41_codes.specs.declared.functions.NameFunction.TheVariants.{ExecuteName}
+use Rattle.h41_codes.specs.declared.functions.NameFunction.TheVariants.{ExecuteName, GoToName}
 use Rattle.h41_codes.specs.declared.functions.ParameterFunction.TheVariants as parameters
 use Rattle.h41_codes.specs.declared.functions.RegisterFunction.TheVariants.{RecallRegister, StoreRegister}
 use Rattle.h41_codes.specs.declared.line.Line.{Line}
@@ -78,7 +75,8 @@ class Program:
         self.shown = lines[0].text if LOCAL.fullmatch(lines[0].text) else label
         self.name = re.sub(r"\W", "_", label, flags=re.A)
         callees: list[Program] = [call.program for call in self.walk.calls.values()]
-        self.depth: int = 1 + max((one.depth for one in callees), default=-1)
+        # How many return addresses the program needs: GTO needs none.
+        self.depth: int = max([0, *(call.program.depth + (lines[at].text[:3] == "XEQ") for at, call in self.walk.calls.items())])
         # The programs with a name that are called, each after those that it calls.
         self.subs: list[Program] = []
         for call in self.walk.calls.values():
@@ -265,7 +263,7 @@ class Program:
         """Returns the requirements of the calls, with their names in the proof."""
         if not self.walk.calls:
             return []
-        rows = [("few", f"length {returns} ≤ {RETURNS - self.depth}")]
+        rows = [("few", f"length {returns} ≤ {RETURNS - self.depth}")] if self.depth else []
         for one in self.subs:
             at = f"at_{one.name.lower()}"
             rows += [(f"has_{one.name.lower()}", one.has(memory, at, list(map(one.as_sub, one.unknowns())))),
@@ -306,7 +304,7 @@ def names_in(term: Term, register: str) -> list[str]:
 def new_results(program: Program, term: Term) -> list[Term]:
     """Returns the operations in a term whose results are no variables of the theorem."""
     return [part for part in term.parts() if part.args and part.op not in EXACT and part not in program.walk.required
-            and program.walk.nat(part) is None]
+            and program.walk.is_opaque(part)]
 
 
 def claim_text(program: Program, at: int) -> str:

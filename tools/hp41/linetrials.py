@@ -22,7 +22,7 @@ WIDE = Context(prec=40, traps=[])
 PI = Decimal("3.141592654")
 MOST, LEAST = 99, -99
 # Functions whose results are exact.
-PARTS = ("COUNT", "FINAL", "INT", "MOD")
+PARTS = ("COUNT", "FINAL", "INT", "FRC", "MOD")
 WHOLE = ("0", "0", "1", "1", "2", "100", "1000", "9999999999")
 FEW = ("0", "1", "-1", "2", "3", "10", "0.5", "-2.5", "9999999999", "1E-99", "9.999999999E99", "-9.999999999E99", "123456.789", "7")
 TEXT = "10000000004142"
@@ -104,6 +104,8 @@ def part_of(op: str, values: list[Decimal]) -> Decimal:
     if op == "MOD":
         return values[0] % values[1]
     whole = values[0].to_integral_value(ROUND_DOWN)
+    if op == "FRC":
+        return values[0] - whole
     return (values[0] - whole) * 1000 // 1 if op == "FINAL" else whole
 
 

@@ -14,7 +14,7 @@ from .linecounters import COUNT_BOUND, FINAL_BOUND, CounterWalk
 from .linecounts import Count
 from .lineflow import Flow
 from .linepoints import PLACES, START, Call, Fact, Loop, Point, State
-from .linesteps import NO_START, asked, into, value_of, written_in
+from .linesteps import NO_START, WHOLE_PARTS, asked, into, value_of, written_in
 from .lineterms import ProgramLine
 
 if TYPE_CHECKING:
@@ -59,7 +59,7 @@ class WholeWalk(CounterWalk):
         elif term.op == "number":
             value = value_of(term.name)
             found = str(int(value)) if value is not None and value == int(value) and 0 <= value < bound else None
-        elif term.op in ("COUNT", "FINAL", "INT", "MOD"):
+        elif term.op in WHOLE_PARTS:
             found = self.nat_of_part(term, bound)
         elif term.op in ("+", "-", "*") and term.plain() not in self.required:
             left, right = (self.nat(one, bound) for one in term.args)
@@ -129,10 +129,11 @@ class WholeWalk(CounterWalk):
 
     def compute(self, made: Point, result: Term) -> None:
         """Adds the points after a function."""
-        if result.op not in ("+", "-", "MOD", "INT") or self.nat(result) is None:
+        is_fraction = result.op == "FRC" and self.parts_of(result) is not None
+        if not is_fraction and (result.op not in ("+", "-", "MOD", "INT", "FRC") or self.nat(result) is None):
             super().compute(made, result)
             return
-        made.result, made.kind = result, "exact"
+        made.result, made.kind = result, "fraction" if is_fraction else "exact"
         new = self.fresh(result)
         made.after = [self.point(made.at + 1, self.computed(made, new), (*made.facts, Fact(left=new)))]
 
@@ -165,9 +166,10 @@ class WholeWalk(CounterWalk):
         """Checks that the requirements of a subroutine are met."""
         super().check_call(made, callee)
         name, state = callee.shown, made.state
-        if callee.contract.counters:
-            raise self.fail(made.at, f"{name} requires a counter, and calls of such a program are not supported: put its lines in place of "
-                                     "XEQ")
+        for register in callee.contract.counters:
+            if self.parts_of(state.register(register)) is None:
+                raise self.fail(made.at, f"{name} requires that {register} is a counter, but {register} contains "
+                                         f"{plain(state.register(register).text())}, of which this is not known")
         typed = next((text for text in callee.numbers if self.nat(Term("number", (), text)) is not None), None)
         if typed:
             raise self.fail(made.at, f"the line {typed} of {name} is not followed as a whole number: add a claim about a whole number "
@@ -204,7 +206,10 @@ class WholeWalk(CounterWalk):
 
     def number_at(self, name: str, state: State) -> str:
         """Returns a whole number of the claims of a subroutine that is called in a state, as a natural number of the definitions."""
-        found = self.nat(state.register(name.removeprefix("whole_").upper()))
+        kind, register = name.split("_")
+        value = state.register(register.upper())
+        parts = self.parts_of(value) if kind != "whole" else None
+        found = self.nat(value if parts is None else parts[0] if kind == "count" else parts[1])
         assert found is not None
         return found
 

@@ -25,6 +25,9 @@ ERROR = re.compile(r"\./(proofs/\S+|specs/\S+):(\d+):\d+: error: (.*)")
 OF_FUNCTION = re.compile(rf"fn {CRATE}::functions::of_(\w+): (.*)")
 PROVED = "logic=proved "
 
+# Where a file names another crate: a definition or a lemma, or a law.
+OF_CRATE = re.compile(r"\bRattle\.(\w+)\.|^use (\w+)::", re.M)
+
 # What the prover says while it runs.
 CHECKED = re.compile(rf"checked {CRATE}::functions::of_(\w+), (\d+) of (\d+)")
 
@@ -76,13 +79,24 @@ def kit() -> str:
     return os.path.dirname(os.path.dirname(os.path.realpath(rt)))
 
 
-def command(folder: str, used: tuple[str, ...]) -> list[str]:
-    """Returns the command that proves the crate in the current folder."""
-    top = kit()
+def named_in(crate: str) -> set[str]:
+    """Returns the names of the crates that the files of a crate in a folder name."""
+    found: set[str] = set()
+    for within, _, names in os.walk(crate):
+        for name in names:
+            with open(os.path.join(within, name), encoding="utf-8") as file:
+                found |= {one for pair in OF_CRATE.findall(file.read()) for one in pair}
+    return found
+
+
+def command(crate: str, folder: str, used: tuple[str, ...]) -> list[str]:
+    """Returns the command that proves a crate, in its folder. The prover needs longer to start if it is given a library that the crate does
+    not name."""
+    top, named = kit(), named_in(crate)
     words = [f"{top}/bin/rattle", "check", "--crate-name", CRATE, "src/lib.rt", "--extern", f"std={top}/rlibs/std.rlib"]
     paths = {name: library(folder, name) for name in used}
     for name, path in paths.items():
-        words += ["--extern", f"{name}={path}"]
+        words += ["--extern", f"{name}={path}"] if name in named else []
     for within in dict.fromkeys([*(os.path.dirname(path) for path in paths.values()), f"{top}/rlibs"]):
         words += ["-L", f"dependency={within}"]
     words += ["--links", f"{CRATE}="]
@@ -92,13 +106,13 @@ def command(folder: str, used: tuple[str, ...]) -> list[str]:
 def prove(crate: str, libraries: str, proofs: Mapping[str, Proof], used: tuple[str, ...] = USED,
           reasons: Mapping[str, Sequence[str]] | None = None) -> Verdict:
     """Returns what the prover says of a crate in a folder. `reasons` has for each line of a proof why it may fail. While the prover runs,
-    the theorems that it has checked are shown."""
+    the theorems that it has checked are shown. It keeps memory that it may want again, which saves it time."""
     progress.show(f"proving {progress.counted(len(proofs), 'theorem')}")
     names = {path.removeprefix("proofs/Of_").removesuffix(".antt").lower(): path.removeprefix("proofs/Of_").removesuffix(".antt")
              for path in proofs}
     lines: list[str] = []
-    with subprocess.Popen([*command(libraries, used), *(["--progress"] if progress.is_shown else [])], cwd=crate, stdin=subprocess.DEVNULL,
-                          stdout=subprocess.PIPE, stderr=subprocess.STDOUT) as ran:
+    with subprocess.Popen([*command(crate, libraries, used), *(["--progress"] if progress.is_shown else [])], cwd=crate, stdin=subprocess.DEVNULL,
+                          stdout=subprocess.PIPE, stderr=subprocess.STDOUT, env={"MIMALLOC_PURGE_DELAY": "-1"} | os.environ) as ran:
         assert ran.stdout
         for line in ran.stdout:
             lines.append(line.decode(errors="replace"))

@@ -6,6 +6,7 @@ import os
 from .activebanks import NUMBERS, words_text
 from .codes import Code, Result
 from .knowledge import FEWEST, MAIN_START
+from .needed import trimmed
 from .statements import CRATE, laws_of, spec_of
 from .symbols import REGISTERS
 from .theorems import Proof
@@ -26,7 +27,7 @@ def write_crate(folder: str, code: Code, results: list[Result], title: str) -> d
     registers = max([FEWEST, *(result.knowledge.highest - MAIN_START + 1 for result in results)])
     for result in results:
         proof = Proof(code, result)
-        files[f"specs/Of_{result.label}.antt"] = spec_of(code, result)
+        files[f"specs/Of_{result.label}.antt"] = trimmed(spec_of(code, result))
         files[f"proofs/Of_{result.label}.antt"] = proof.text()
         files[f"proofs/functions/of_{result.label.lower()}/Answers.antt"] = answer_of(result)
         proofs[f"proofs/Of_{result.label}.antt"] = proof

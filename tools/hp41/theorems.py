@@ -8,6 +8,7 @@ from .banksteps import left_by
 from .claimproofs import omega
 from .codes import Code, Loop, Result, known_at_start
 from .loopproofs import LoopProof
+from .needed import IMPORT, needed, words_in
 from .reasons import Reasons
 from .statements import CRATE, IMPORTS, PROJECT_IMPORTS, RETURNS, UNFOLDING, done_name, laws_of, pages_of, requirements, sum_text
 from .symbols import REGISTERS, Fact, Form, Node, State, Way, argument, form_text, keys_in, stack
@@ -55,6 +56,10 @@ class Proof:
         self.put(1, f"After = {done_name(label)} s r0 r1 r2 r3")
         self.node(result.root, 1)
         self.last(result)
+        words = words_in(row for row, _, _ in self.rows)
+        kept = [(text, line, claim, why) for (row, line, claim), why in zip(self.rows, self.reasons)
+                for text in (needed(row, words) if row.startswith(IMPORT) else [row])]
+        self.rows, self.reasons = [(text, line, claim) for text, line, claim, _ in kept], [why for _, _, _, why in kept]
         return "".join(f"{row}\n" for row, _, _ in self.rows)
 
     def last(self, result: Result) -> None:

@@ -4,7 +4,7 @@ use Rattle.std.proofs.Common.{refl, sym, ap, ◌∙◌, subst, arith, if◌then�
 use Rattle.std.specs.Prelude.{◌==◌}
 use Rattle.std.proofs.lemmas.Bool.{eqb-true, eqb-false}
 use Rattle.h41_codes.specs.declared.functions.Branch.TheVariants.{Execute}
-use Rattle.h41_codes.specs.declared.functions.NameFunction.TheVariants.{ExecuteName}
+use Rattle.h41_codes.specs.declared.functions.NameFunction.TheVariants.{ExecuteName, GoToName}
 use Rattle.h41_codes.specs.declared.line.Line.{Line}
 use Rattle.h41_codes.specs.declared.line.Line.TheVariants.{BranchTo, Named}
 use Rattle.h41_focal.specs.Destinations.{with_return}
@@ -31,8 +31,8 @@ use Rattle.h41_reasoning_lines.proofs.Listed.{IsListed, also, lines_from}
 use Rattle.h41_reasoning_lines.proofs.Programs.{program_also}
 use Rattle.h41_reasoning_lines.proofs.ProgramStates.{address_stays, curtain_stays, program_stays, size_stays}
 use Rattle.h41_reasoning_lines.proofs.Listed.{IsLineAt}
-use Rattle.h41_reasoning_lines.proofs.Rounds.{leaves_in_turn}
-use Rattle.h41_reasoning_lines.proofs.Stepping.{after_line, before_line, executes, executes_named}
+use Rattle.h41_reasoning_lines.proofs.Rounds.{leaves_as, leaves_in_turn, line_then}
+use Rattle.h41_reasoning_lines.proofs.Stepping.{after_line, before_line, executes, executes_named, goes_named}
 use Rattle.h41_reasoning_lines.proofs.Subroutines.{call_returns}
 
 -- XEQ adds one return address, if there are at most five.
@@ -191,3 +191,19 @@ module _ (pages : PageMap) (old : RegisterMap) (sixteen : length old.status ≡ 
         let same = rebuilt here u next Property done in
         subst (λ (t : Machine). Leaves pages rest t After) (sym same)
         (goes_on u.memory u.focal.lift (subst (λ (t : Machine). Property (left_done t)) same done.property)))
+
+    -- GTO with a name. The program to which it leads returns to the caller of this one.
+    abbrev gone : ℕ → Machine
+    gone target = after_line memory target returns lift
+
+    pub goes_to_named : (name : List ℕ) (target : ℕ) → IsLineAt old at (Named GoToName name) next → FindsName old name target
+        → Continues pages here (gone target)
+    goes_to_named name target line finds =
+        goes_named pages memory at next zero returns lift name target (also old memory at _ next agree line)
+        (name_there name target finds)
+
+    pub go_then : (most target : ℕ) (Property After : Left → Type 0) → Continues pages here (gone target)
+        → Leaves pages most (gone target) Property → ((left : Left) → Property left → After left)
+        → Leaves pages (1 + most) here After
+    go_then most target Property After goes leaves follows =
+        line_then pages most here (gone target) After goes (leaves_as pages most (gone target) Property After follows leaves)

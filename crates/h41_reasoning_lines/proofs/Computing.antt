@@ -6,7 +6,7 @@ use Rattle.h41_decimal.specs.Holding.{Number, holding_of, number_in, worth}
 use Rattle.h41_decimal.specs.NearestDecimal.{Nearest, NearestRoot}
 use Rattle.h41_decimal.specs.Operations.{NearestModulo, NearestQuotient}
 use Rattle.h41_decimal.specs.Units.{one, units}
-use Rattle.h41_decimal.specs.WholeParts.{IsIntegerPart}
+use Rattle.h41_decimal.specs.WholeParts.{IsFraction, IsIntegerPart}
 use Rattle.h41_decimal.specs.declared.ten.Ten.{Ten}
 use Rattle.h41_decimal.proofs.Registers.{worth-holding_of}
 use Rattle.h41_focal.specs.LineStep.{Works}
@@ -171,6 +171,17 @@ module _ (stack : Stack) (memory : RegisterMap) (x : ℤ) (in_x : holding_of sta
       record {
         answer = Ok answer;
         nearest = (part, subst (λ (a : ℤ). IsIntegerPart a part) (sym (amount_of stack.x x in_x)) is_part, nearest);
+        kept = is;
+      }
+
+  -- FRC.
+  pub made_fraction : (rest : ℤ) → IsFraction x rest → Nearest rest 1 (Ok answer)
+      → Works (with_stack stack memory) 0 (of_x (OfOne ones.Fraction X)) (Ok result)
+  made_fraction rest is_rest nearest =
+      holding_true (is_some (number_in stack.x) && true) _ _ only_x
+      record {
+        answer = Ok answer;
+        nearest = (rest, subst (λ (a : ℤ). IsFraction a rest) (sym (amount_of stack.x x in_x)) is_rest, nearest);
         kept = is;
       }
 

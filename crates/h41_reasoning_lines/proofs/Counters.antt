@@ -5,10 +5,11 @@ use Rattle.std.proofs.lemmas.Grind.{common_steps}
 use Rattle.std.proofs.lemmas.Int.{ints}
 use Rattle.h41_decimal.specs.Signs.{sign_of, with_sign}
 use Rattle.h41_decimal.specs.Units.{one, units}
-use Rattle.h41_decimal.specs.WholeParts.{IsIntegerPart}
+use Rattle.h41_decimal.specs.WholeParts.{IsFraction, IsIntegerPart}
 use Rattle.h41_decimal.specs.declared.ten.Ten.{Ten}
 use Rattle.h41_rows.specs.Counters.{Down, Up, count_of, counter_after, goes_on, number_after}
 use Rattle.h41_reasoning_lines.proofs.Wholes.{ten_at, whole}
+use Rattle.h41_reasoning_lines.proofs.WholeSteps.{whole_part}
 
 -- i.nnn, in units.
 abbrev pub counter : (i n : ℕ) → ℕ
@@ -107,6 +108,13 @@ module _ (i n : ℕ) (few : n < 1000) (some : 0 < i) where
 -- The integer part of a counter.
 pub count_is : (i n : ℕ) → n < 1000 → IsIntegerPart (pos (counter i n)) (whole i)
 count_is i n few = record { ones = i; whole = record { not_above = omega (arith, few); next_above = omega (arith, few) }; value = refl }
+
+-- The fraction of a counter is a counter whose i is 0, and that of a whole number is 0.
+pub fraction_is_counter : (i n : ℕ) → n < 1000 → IsFraction (pos (counter i n)) (pos (counter 0 n))
+fraction_is_counter i n few = record { part = whole i; integer = count_is i n few; rest = omega (arith, ints) }
+
+pub no_fraction : (i : ℕ) → IsFraction (whole i) (whole 0)
+no_fraction i = record { part = whole i; integer = whole_part i; rest = omega (arith, ints) }
 
 -- A counter without decimals counts down to 0.
 counter_whole : (i : ℕ) → counter i 0 ≡ i * one

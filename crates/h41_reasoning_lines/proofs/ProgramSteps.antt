@@ -41,7 +41,7 @@ use Rattle.h41_reasoning_lines.proofs.Listed.{IsLineAt, also}
 use Rattle.h41_reasoning_lines.proofs.ProgramStates.{address_stays, flag_stays, own, program_stays, restacked, rewritten, size_stays}
 use Rattle.h41_reasoning_lines.proofs.Registers.{data_found, number_in_x, number_over, recalled_short, recalled_short_over, stored_short}
 use Rattle.h41_reasoning_lines.proofs.Stepping.{Back, after_line, before_line, ended, entered, exchanged, global_label, go_to, label}
-use Rattle.h41_reasoning_lines.proofs.Stepping.{of_one, of_two, own_place, plain, returned, rolled_down, test_false, test_true}
+use Rattle.h41_reasoning_lines.proofs.Stepping.{lifts, of_one, of_two, own_place, plain, returned, rolled_down, test_false, test_true}
 
 -- A line continues at a position, with this stack and these data registers.
 pub record Reaches (pages : PageMap) (old : RegisterMap) (s : Machine) (stack : Stack) (contents : ℕ → List ℕ) (at : ℕ)
@@ -213,6 +213,12 @@ module _ (pages : PageMap) (old : RegisterMap) (sixteen : length old.status ≡ 
         by_stack lift (record stack { x = stack.t; y = stack.x; z = stack.y; t = stack.z }) next true
         (plain pages same at next zero returns lift functions.RollUp _ _ refl (there _ at next line)
         (Ok zeros, refl, (Arrives (Memory next) returns, refl, refl)))
+
+    -- BEEP, PSE and ADV, which have no effect in the bench.
+    pub only_lifts : (function : Function) → function_row function ≡ Some rows.lifting_row → IsLineAt old at (lines.Plain function) next
+        → Reaches pages old (before lift) stack contents next returns true
+    only_lifts function has line =
+        by_stack lift stack next true (lifts pages same at next zero returns lift function has (there _ at next line))
 
     pub enters : IsLineAt old at (lines.Plain functions.Enter) next
         → Reaches pages old (before lift) (record stack { y = stack.x; z = stack.y; t = stack.z }) contents next returns false

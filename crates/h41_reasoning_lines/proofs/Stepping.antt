@@ -7,7 +7,7 @@ use Rattle.h41_codes.specs.declared.functions.Function.{Function}
 use Rattle.h41_codes.specs.declared.functions.Function.TheVariants as functions
 use Rattle.h41_codes.specs.declared.line.Line.{Line}
 use Rattle.h41_codes.specs.declared.functions.Branch.TheVariants.{Execute, GoTo}
-use Rattle.h41_codes.specs.declared.functions.NameFunction.TheVariants.{ExecuteName}
+use Rattle.h41_codes.specs.declared.functions.NameFunction.TheVariants.{ExecuteName, GoToName}
 use Rattle.h41_codes.specs.declared.line.Line.TheVariants.{BranchTo, End, FinalEnd, GlobalLabel, LocalLabel, Named, Plain, ShortGoTo}
 use Rattle.h41_focal.specs.Destinations.{Arrives, GoesBack, Halts, Stepped, with_return}
 use Rattle.h41_focal.specs.LineStep.{Applies, Left, StepsLine, TakesLine, Works}
@@ -143,6 +143,17 @@ module _ (pages : PageMap) (memory : RegisterMap) (at next : ℕ) (zero : Bool) 
     executes_named name target is found =
         taken (Named ExecuteName name) _ is
         (Ok zeros, refl, (Arrives (Memory target) (with_return returns (Memory next)), (Some target, found, refl), refl))
+
+    -- GTO with a name.
+    pub goes_named : (name : List ℕ) (target : ℕ) → IsLineAt memory at (Named GoToName name) next → FindsName memory name target
+        → Continues pages (before_line memory at zero returns lift) (after_line memory target returns lift)
+    goes_named name target is found =
+        taken (Named GoToName name) _ is (Ok zeros, refl, (Arrives (Memory target) returns, (Some target, found, refl), refl))
+
+    -- A function that only turns stack lift on, such as BEEP.
+    pub lifts : (function : Function) → function_row function ≡ Some rows.lifting_row → IsLineAt memory at (Plain function) next
+        → Continues pages (before_line memory at zero returns lift) (after_line memory next returns true)
+    lifts function has is = plain function rows.lifting_row _ has is (Ok zeros, refl, (Arrives (Memory next) returns, refl, refl))
 
     -- A test, given that the registers that it compares contain numbers where it needs them.
     module _ (function : Function) (condition : rows.Condition) (has : function_row function ≡ Some (rows.test condition))

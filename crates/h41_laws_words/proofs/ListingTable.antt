@@ -1,7 +1,8 @@
 -- The line of each word is read as that word: for a row of the list, and for a word that is no instruction.
 use Rattle.std.proofs.Common.{ℕ, zero, suc, ◌+◌, ◌*◌, ◌<◌, ◌≤◌, ℤ, pos, negsuc, ◌==◌, List, [], ◌∷◌, ◌++◌, map}
-use Rattle.std.proofs.Common.{drop, subst, arith}
+use Rattle.std.proofs.Common.{drop, refl, subst, arith}
 use Rattle.std.specs.Fmt.{digits}
+use Rattle.std.specs.Prelude.{codes}
 use Rattle.std.specs.List.{AllByRecursion, flat_map, range_with_len}
 use Rattle.std.proofs.lemmas.Bool.{cond_both}
 use Rattle.h41_words.specs.declared.rows.Row.{Row}
@@ -12,7 +13,7 @@ use Rattle.h41_words.specs.Listing.{fields, operations, displacements, families,
 use Rattle.h41_words.specs.Mnemonics.{row_text}
 use Rattle.h41_words.specs.WordTable.{number_of, with_numbers, row_in, row_of, word_table, WordOfRow}
 use Rattle.h41_asm.specs.Statements.{singles, takers}
-use Rattle.h41_laws_words.proofs.ListingRows.{reads_constant, reads_arithmetic, reads_forward, reads_backward}
+use Rattle.h41_laws_words.proofs.ListingRows.{reads_constant, reads_arithmetic, reads_forward, reads_backward, reads_number}
 use Rattle.h41_laws_words.proofs.ListingTexts.{Reads}
 
 -- The line of a row is read as the word of the row.
@@ -56,27 +57,42 @@ short_jumps condition =
     (each_number (ReadsJump condition) (λ words. pos words) 0 64 (λ words low high. reads_forward condition words (omega arith)))
     (each_number (ReadsJump condition) (λ words. negsuc words) 0 64 (λ words low high. reads_backward condition words (omega arith))))
 
+-- The rows of the numbers from 0 on.
+read : (row : ℕ → Row) (count : ℕ) → ((n : ℕ) → n < count → ReadsRow (row n))
+    → AllByRecursion ReadsRow (map row (range_with_len 0 count))
+read row count reads = each_number ReadsRow row 0 count (λ n low high. reads n (omega arith))
+
 -- A jump whose second word is missing is CON.
 long_jump : (low_byte : ℕ) → low_byte < 256 → ReadsRow (rows.LongJump low_byte)
 unfolding number_of
 long_jump low_byte inside = reads_constant (low_byte * 4 + 1) (omega arith)
 
--- The rows with a decimal number, and the single words.
-numbered : AllByRecursion (AllByRecursion ReadsRow) (drop 4 families)
+-- The rows of registers of memory, and the single words.
+others : AllByRecursion (AllByRecursion ReadsRow) (drop 11 families)
 unfolding singles takers digits number_of
-numbered = assumption
+others = assumption
+
+-- What is true of a family, and what is true of the families after it.
+also : {P Q : Type 0} → P → Q → P × Q
+also first behind = (first, behind)
 
 listed : AllByRecursion ReadsRow listed_rows
-unfolding listed_rows
-listed = each_flat_map ReadsRow (λ family. family) families (
-  each_flat_map ReadsRow (λ operation. map (λ field. rows.Arithmetic operation field) fields) operations
-      (each_always _ operations (λ operation. each_map ReadsRow (λ field. rows.Arithmetic operation field)
-      fields (each_always _ fields (λ field. reads_arithmetic operation field)))),
-  (
-    each_number ReadsRow (λ n. rows.LongJump n) 0 256 (λ n low high. long_jump n (omega arith)),
-    (short_jumps NoCarry, (short_jumps Carry, numbered)),
-  ),
-)
+unfolding listed_rows singles takers digits
+listed =
+    let arithmetic = each_flat_map ReadsRow (λ operation. map (λ field. rows.Arithmetic operation field) fields) operations
+    (each_always _ operations (λ operation. each_map ReadsRow (λ field. rows.Arithmetic operation field) fields
+    (each_always _ fields (λ field. reads_arithmetic operation field)))) in
+    let long = each_number ReadsRow (λ n. rows.LongJump n) 0 256 (λ n low high. long_jump n (omega arith)) in
+    let cleared = read (λ n. rows.ClearStatus n) 14 (reads_number (codes "CLRF") 14 (λ n. rows.ClearStatus n) (λ word. assumption) refl) in
+    let set = read (λ n. rows.SetStatus n) 14 (reads_number (codes "SETF") 14 (λ n. rows.SetStatus n) (λ word. assumption) refl) in
+    let tested = read (λ n. rows.TestStatus n) 14 (reads_number (codes "?FSET") 14 (λ n. rows.TestStatus n) (λ word. assumption) refl) in
+    let pointed = read (λ n. rows.TestPointer n) 14 (reads_number (codes "?R=") 14 (λ n. rows.TestPointer n) (λ word. assumption) refl) in
+    let pointer = read (λ n. rows.SetPointer n) 14 (reads_number (codes "R=") 14 (λ n. rows.SetPointer n) (λ word. assumption) refl) in
+    let rotated = read (λ n. rows.RotateRight n) 14 (reads_number (codes "RCR") 14 (λ n. rows.RotateRight n) (λ word. assumption) refl) in
+    let loaded = read (λ n. rows.LoadDigit n) 16 (reads_number (codes "LD@R") 16 (λ n. rows.LoadDigit n) (λ word. assumption) refl) in
+    each_flat_map ReadsRow (λ family. family) families
+    (also arithmetic (also long (also (short_jumps NoCarry) (also (short_jumps Carry) (also cleared (also set (also tested
+    (also pointed (also pointer (also rotated (also loaded others)))))))))))
 
 in_table : (some : List Row) (word : ℕ) → AllByRecursion ReadsRow some → ReadsRow (rows.Constant word)
     → ReadsRow (row_in (with_numbers some) word)

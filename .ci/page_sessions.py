@@ -131,6 +131,11 @@ def runs_to_lines(visit: Visit) -> None:
               ["Run 0003", "At position 0003", []])
     browser.click("#program .line:nth-child(4) [data-at='to l0003']")
     visit.row("a run to the same line", "return [present().pos[0], present().numbers[3]]", ["Run 0003", "2"])
+    browser.run("return give([...Array(16)].map((_, at) => `break l ${100 + at}\\n`).join(''))")
+    browser.click("#program .line:nth-child(5) [data-at='to l0004']")
+    visit.row("no run to a line if there are 16 breakpoints", "return [present().pos[0], present().breaks.length, by('refusal').textContent]",
+              ["Run 0003", 16, "! 19 BreakFull  break l 4"])
+    browser.run("return give([...Array(16)].map((_, at) => `unbreak l ${100 + at}\\n`).join(''))")
 
 
 def displays_off(visit: Visit) -> None:

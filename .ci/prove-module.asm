@@ -178,3 +178,30 @@ REACH_1: ?A<C S&X
         ?NC RTN
         A=A+1 S&X
         JNC :REACH_1
+; requires A.SX = 0
+; ensures A.SX = C.SX, C as before, in 4 * C.SX + 3 steps
+LEVEL:  NOP
+; invariant A.SX <= C.SX
+; decreases C.SX - A.SX
+LEVEL_1: ?A<C S&X
+        ?NC RTN
+        A=A+1 S&X
+        JNC :LEVEL_1
+; A loop that ends when ?A#C finds no difference.
+; requires A.SX = 0
+; ensures A.SX = C.SX, C as before, in 4 * C.SX + 3 steps
+MEETS:  NOP
+; invariant A.SX <= C.SX
+; decreases C.SX - A.SX
+MEETS_1: ?A#C S&X
+        ?NC RTN
+        A=A+1 S&X
+        JNC :MEETS_1
+; A difference that ?A#C finds: the number of A is at most that of C here, so it is less.
+; requires A.SX <= C.SX, C.SX is BCD, A.SX is BCD, BCD(A.SX) <= BCD(C.SX)
+; ensures A.SX + 1 <= C.SX + S8, BCD(A.SX) + 1 <= BCD(C.SX) + S8, A as before, C as before, within 5 steps
+DIFFER: SETF 8
+        ?A#C S&X
+        ?NC RTN
+        CLRF 8
+        RTN

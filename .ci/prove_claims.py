@@ -77,6 +77,9 @@ FALSE = [
     ("; ensures A as before, in 1 step\nA: A=0 XS\nRTN\n", ["`A as before`: false: from A=", "`in 1 step`: false: from ", "it takes 2 "
                         "steps, expected 1"]),
     ("; ensures within 2 steps\nA: NOP\nNOP\nRTN\n", ["it takes 3 steps, expected at most 2"]),
+    ("; requires A.SX <= C.SX\n; ensures A.SX < C.SX\nA: ?A#C S&X\n?C RTN\nRTN\n", ["`A.SX < C.SX`: false: from A="]),
+    ("; requires A.SX = 0\n; ensures A.SX = C.SX, in 4 * C.SX + 2 steps\nA: NOP\n; invariant A.SX <= C.SX\n; decreases C.SX - A.SX\n"
+     "B: ?A#C S&X\n?NC RTN\nA=A+1 S&X\nJNC :B\n", ["`in 4 * C.SX + 2 steps`: false: from A="]),
     ("; ensures MODE = HEX\nA: SETDEC\nRTN\n", ["`MODE = HEX`: false: from MODE=HEX it leaves MODE=DEC"]),
     # A register that only the number of steps names.
     ("; ensures within A.SX steps\nA: RTN\n", ["`within A.SX steps`: false: from A=00000000000000 it takes 1 step, expected at most 0"]),

@@ -34,6 +34,6 @@ UNPROVED = [
     f"a.asm:13: not proved: {NEEDS}\n",
     f"a.asm:21: `3 * C.M + 5 * A.M <> 0DDDDDDD`: not proved: {KNOWN} {ROUND}\n",
     f"a.asm:22: `decreases C.SX - A.SX`: not proved: it may not be smaller {ROUND}\n",
-    f"a.asm:33: `3 * C.M + 5 * A.M <> 0DDDDDDD`: not proved: {KNOWN} {AT_EXACT}\n",
+    f"a.asm:32: `3 * C.M + 5 * A.M <> 0DDDDDDD`: not proved: {KNOWN} {AT_EXACT}\n",
     "a.asm:17: NEEDS: proved for every state that meets its requirements: 1 claim, within 2 steps; the bench tried 150 states\n",
 ]

@@ -43,6 +43,18 @@ class Beside:
             self.known[key] = self.asked(words, values_of(cpu))
         return self.known[key]
 
+    def listed(self, words: str) -> Optional[str]:
+        """Returns an instruction of two words as the bench lists it, without the address; None if it does not answer."""
+        page = INSTRUCTION
+        asked = ["reset", f"unplug {page}", f"words {page}\n{words}\nend", f"list {page}000 2"]
+        try:
+            self.bench = self.bench or self.start()
+            lines = self.bench.ask_all([command.encode() for command in asked])[-1]
+        except Failure:
+            self.bench = None
+            return None
+        return lines[0][6:] if lines and not lines[0].startswith("! ") else None
+
     def asked(self, words: str, values: dict[str, str]) -> Optional[list[str]]:
         """Asks the bench; None if it does not answer, refuses a command, or does not have the registers before the instruction."""
         registers = {name: values[name.removeprefix("cpu.")] for name in CPU if name not in ("CY",)}

@@ -22,6 +22,7 @@ from .lessons import OpenLesson
 from .lights import AFTER, BEFORE, PROMPT, Lights, Seen
 from .matches import whole
 from .memory import MAIN_START, Memory
+from .pageends import is_cut, joined, why_cut
 from .paging import Listed, Pages
 from .parts import MOST_STEPS, NO_END, Entry, Part, command_of, parts_of, refusal_of
 from .plugged import Names
@@ -254,6 +255,8 @@ class Desk:
         else:
             is_refused = refusal_of(reply) is not None
             self.made += count - is_refused
+            # How many of several steps were made before the refused one is not known.
+            self.seen = self.made if is_refused else self.seen
             entry.add(reply)
             part.left = 0 if is_refused else part.left
 
@@ -388,7 +391,12 @@ class Desk:
 
         *before, behind = [[] if refusal_of(lines) else lines for lines in lists]
         lines = next((some for some in before if some and ends(some)), []) + behind
-        return [[line[:4], self.labels.of(line[:4]), line[6:]] for line in lines]
+        return [joined([line[:4], self.labels.of(line[:4]), line[6:]], self.word_at, self.beside.listed) for line in lines]
+
+    def word_at(self, address: str) -> list[str]:
+        """Returns the line that lists the word at an address; nothing if none can be read there."""
+        reply, = self.bench.ask_all([f"list {address} 1".encode()])
+        return [] if refusal_of(reply) else reply
 
     def state(self) -> State:
         """Returns the state for the page."""
@@ -418,10 +426,14 @@ class Desk:
         nexts = [one.sentence(other) for other in (False, True)] if is_off is None else []
         return {"word": one.text, "next": one.sentence(is_off), "nexts": nexts if len(set(nexts)) > 1 else [], "asks": one.asks()}
 
-    def next_word(self) -> Explained:
-        """Returns what is said about the next instruction."""
+    def next_word(self) -> Optional[Explained]:
+        """Returns what is said about the next instruction; None if its second word cannot be read."""
         views, place = self.views, self.views["pos"][0].split()[1]
-        words, text = next(((text[:9].strip(), text[9:]) for at, _, text in views["listing"] if at == place), ("", ""))
+        listed = next((text for at, _, text in views["listing"] if at == place), "")
+        if listed and is_cut(place, listed):
+            self.why_no_line = why_cut(place, listed)
+            return None
+        words, text = listed[:9].strip(), listed[9:]
         around = Around(pages=views["pages"], writable=self.names.pages(True), protected=self.names.pages(False), top=self.top)
         after = self.beside.after(words, views["cpu"]) if is_carrying(text) else None
         return of_word(text, views["cpu"], after, around)

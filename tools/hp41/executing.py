@@ -11,7 +11,7 @@ from .codes import ADDRESSES, Code, Loop, NotProved, Result, form_of, key_of, kn
 from .knowledge import Knowledge
 from .linear import contradicts, row
 from .linked import Known
-from .symbols import WIDE, Fact, Form, Node, Ram, Span, State, Value, Way, form_text, keys_in, literal, start_of
+from .symbols import WIDE, Fact, Form, Node, Ram, Span, State, Value, Way, keys_in, literal, start_of
 from .wordsteps import Step
 
 # How many states a function may reach.
@@ -174,15 +174,15 @@ class Execution:
         returns = tuple(f"{at}.return_{place}" if place in loop.lost else one for place, one in enumerate(first.returns))
         node = self.node(State(loop.address, returns, terms), loop.contract.line, [])
         name = f"left_{count}"
-        node.variables = [*([(name, "ℕ")] if left != 0 else []), (t, "Nut"),
-                          (at, f"At_{loop.label} {name if left is None else f'(suc {name})' if left else '0'} {t}")]
+        shown = name if left is None else f"(suc {name})" if left else "0"
+        node.variables = [*([(name, "ℕ")] if left != 0 else []), (t, "Nut"), (at, f"At_{loop.label} {shown} {t}")]
         self.unknown(node, t, at, loop.names)
         node.passed = list(self.nodes[0].passed)
         measure = measure_of(loop, node.state, self.nodes[0].state)
         counted: Form = {name: 1, None: left or 0} if left != 0 else {}
         keys = (*keys_in(measure), *([name] if left != 0 else []))
         known = Known(t, f"{at}.is", "s")
-        proof = known.counted(node, loop.contract.decreases or Sum(), self.nodes[0].state, form_text(counted), f"{at}.counted")
+        proof = known.counted(node, loop.contract.decreases or Sum(), self.nodes[0].state, shown, f"{at}.counted")
         node.passed.append(Fact(proof, "", "", keys, node, row(counted, "=", measure), True))
         self.assume(node, loop.contract.invariant, self.nodes[0].state, f"{at}.invariant", known)
         return node

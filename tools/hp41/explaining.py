@@ -15,7 +15,7 @@ LETTERS = {"F": "(?P<F>@R|S&X|R<|ALL|P-Q|XS|MS|M)", "N": "[0-9]+", "H": "[0-9A-F
            "R": "(?P<R>(?:IND )?(?:[0-9]{2,3}|[TZYXLMNOPQa-eA-J]|append|[0-9]))"}
 PLACEHOLDER = re.compile(r"\{([^}]*)\}(?=( ?))")
 # The placeholders that stand for a value after a comma, or end with one.
-WITHIN = ("{value}", "{indirect}", "{flag}")
+WITHIN = ("{value}", "{indirect}", "{flag}", "{ending}")
 # A comma of a value, while a sentence is filled in.
 VALUE_COMMA = "\0"
 # A text that a name of a function cannot be.
@@ -24,6 +24,8 @@ NO_FUNCTION = re.compile(r"[0-9.E+-]{2,}|[0-9.E]|NEG.*|[\">].*|LBL .*|\.?END\.?"
 IF_OFF = " If the display is off, it stays off until the next key that is accepted."
 # Where a sentence is cut if its step fails: what follows is what would happen afterwards.
 CUT = re.compile(r"; |, after lifting |\.$")
+# What is said of a jump that is not taken.
+FOLLOWS = "; the next word follows"
 # What is said of the line after a test or a loop.
 SKIPPED = re.compile("the next line is skipped")
 # The names of registers of the processor, and of those of programs, for whose next value a learner can be asked.
@@ -135,7 +137,7 @@ class Explained:
             is_doubtful = is_off is None and row_if_off is not None and "display?" not in self.row.changes
             told = self.filled(SKIPPED.sub(self.skips(), sentence)) + (IF_OFF if is_doubtful else "")
             return told + (" The result may be OUT OF RANGE." if self.unsure else "")
-        done = self.filled(CUT.split(sentence)[0])
+        done = self.filled(CUT.split(sentence)[0]).removesuffix(FOLLOWS)
         if self.is_word or error.message.endswith(")"):
             return f"{done}, but the step is refused as {error.message}: {error.cause}."
         ignored = "; flag 25 is set, so the error is ignored, and the flag is cleared"
@@ -263,7 +265,7 @@ class Explained:
 
     def part_taken(self) -> str:
         """Returns whether a jump is taken."""
-        return "it does" if self.values.get("CY") == self.part_wanted() else "it does not; the next word follows"
+        return "it does" if self.values.get("CY") == self.part_wanted() else f"it does not{FOLLOWS}"
 
     def part_returns(self) -> str:
         """Returns where the newest return address leads: to a word, or to the end of the function."""
@@ -272,6 +274,11 @@ class Explained:
             return f"Returns to {address}"
         return f"Ends the function: its return address is {address}" if self.text == "RTN" else \
             f"Ends the function, whose return address is {address},"
+
+    def part_ending(self) -> str:
+        """Returns that the address of a jump or a call is the one at which a function ends, after a comma; nothing if it is not."""
+        address = self.group(2) if self.text.startswith("?") else self.value("C.6-3")
+        return ", which ends the function" if address == f"{END_OF_FUNCTION:04X}" else ""
 
     def part_return(self) -> str:
         """Returns the newest return address."""

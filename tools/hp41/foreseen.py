@@ -17,7 +17,9 @@ IND = "IND "
 STACK_NUMBERS = {"T": 112, "Z": 113, "Y": 114, "X": 115, "L": 116}
 # A result can only be out of range if the exponent of a value that it is made of has at least this absolute value.
 LEAST_EXPONENT = 49
-MEMORY_END, END_OF_FUNCTION, FIRST_PAGE = 0x200, 0x00F0, 0x4000
+MEMORY_END, END_OF_FUNCTION, FIRST_PAGE, ADDRESS_END = 0x200, 0x00F0, 0x4000, 0x10000
+# How the instructions with two words begin.
+TWO_WORDS = ("LDI ", "?NC XQ", "?C XQ", "?NC GO", "?C GO")
 # After a line that begins from here on, the next line may be in the next page.
 LAST_LINES = "FF0"
 
@@ -103,7 +105,7 @@ class Foreseen:
             found: Optional[Error] = getattr(self, f"check_{name}")(what)
             if found:
                 return found
-        return None
+        return self.going_on() if self.one.is_word else None
 
     # What checks of lines need.
 
@@ -244,6 +246,14 @@ class Foreseen:
     def is_taken(self) -> bool:
         """Returns whether a conditional jump is taken. Without a condition it is."""
         return self.one.found is None or not self.one.found.re.groups or self.one.part_taken() == "it does"
+
+    def going_on(self) -> Optional[Error]:
+        """Returns the refusal of an instruction that goes on from the last word of the address space, after which 0000 follows."""
+        place, row = self.one.values.get("PC"), self.one.row
+        if place is None or row is None or "REFUSED" in row.changes or "GOES" in row.changes and self.is_taken():
+            return None
+        after = int(place, 16) + (2 if self.one.text.startswith(TWO_WORDS) else 1)
+        return Error("SystemRom (08)", "the next word is at 0000, in pages 0 to 3, HP's own ROM") if after == ADDRESS_END else None
 
     def check_target(self, _: str) -> Optional[Error]:
         """Fails if a long jump that is taken leads to the calculator's own pages."""

@@ -11,7 +11,7 @@ from .symbols import (PLACES, REGISTERS, Fact, Form, Key, Node, Ram, Span, Value
 
 # Names that a node introduces.
 NAMES = re.compile(r"\b[a-z]+_[0-9]+\b")
-SIGNS = {"=": "≡", "<": "<", "<=": "≤"}
+SIGNS = {"=": "≡", "<>": "≢", "<": "<", "<=": "≤"}
 FEWEST, STATUS_END, MAIN_START, MAIN_END = 64, 0x010, 0x0C0, 0x200
 
 
@@ -268,18 +268,22 @@ class Knowledge:
         """Returns the proof that a register has 14 digits."""
         return "zeros_register" if name == "zeros" else self.value(name).is_register
 
+    def numbers_in(self, base: int, names: Iterable[str], lo: int, hi: int) -> list[str]:
+        """Returns the proofs that some digits of registers form numbers in a base, as arguments; nothing if that is not known."""
+        if base == 16:
+            return [f"(inl (refl, {self.register(name)}))" for name in names]
+        decimals = [self.decimals.proof(name, lo, hi) for name in names]
+        return [] if None in decimals else [f"(inr (refl, {one}))" for one in decimals]
+
     def rule(self, value: Value) -> Iterator[Fact]:
         """Yields the fact that a sum or a difference is that of whole numbers."""
         base, key = value.base, Span(value.name, value.lo, value.hi, value.base)
         if value.is_ruled:
             return
         value.is_ruled = True
-        numbers = [f"(inl (refl, {self.register(name)}))" for name in (value.x, value.y)]
-        if base == 10:
-            decimals = [self.decimals.proof(name, value.lo, value.hi) for name in (value.x, value.y)]
-            if None in decimals:
-                return
-            numbers = [f"(inr (refl, {one}))" for one in decimals]
+        numbers = self.numbers_in(base, (value.x, value.y), value.lo, value.hi)
+        if not numbers:
+            return
         x, y = (self.operand(name, key) for name in (value.x, value.y))
         carry = f"carry_digit {value.carry}"
         power, bit = base ** (value.hi + 1 - value.lo), int(value.carry_in == "true")

@@ -2,32 +2,33 @@
 from __future__ import annotations
 
 from fractions import Fraction
+from itertools import product
 from typing import Any, Hashable, Iterable, Mapping, NamedTuple
 
-# More rows than these are not examined.
-MOST_ROWS = 1_500
+# More rows than these are not examined, and of those that say that a sum is not zero, more than these.
+MOST_ROWS, MOST_OTHERS = 1_500, 4
 
 
 class Row(NamedTuple):
-    """A comparison with zero: the sum of the numbers times their factors, plus the constant, is zero, or not negative."""
+    """A comparison with zero: the sum of the numbers times their factors, plus the constant, is zero, or not negative. With `is_other`, it
+    is a whole number that is not zero."""
     factors: dict[Hashable, Fraction]
     constant: Fraction
     is_equal: bool
+    is_other: bool = False
 
 
 def row(left: Mapping[Any, int], relation: str, right: Mapping[Any, int]) -> list[Row]:
     """Returns the rows of a comparison of two sums of whole numbers. The constant of a sum is its factor of None."""
     if relation in (">", ">="):
         return row(right, {">": "<", ">=": "<="}[relation], left)
-    if relation == "<>":
-        return []
     sign = -1
     factors: dict[Hashable, Fraction] = {}
     for side, part in ((1, right), (sign, left)):
         for key, many in part.items():
             factors[key] = factors.get(key, Fraction(0)) + side * many
     constant = factors.pop(None, Fraction(0)) - (1 if relation == "<" else 0)
-    return [Row({key: many for key, many in factors.items() if many}, Fraction(constant), relation == "=")]
+    return [Row({key: many for key, many in factors.items() if many}, Fraction(constant), relation == "=", relation == "<>")]
 
 
 def added(one: Row, many: Fraction, other: Row, times: Fraction, is_equal: bool) -> Row:
@@ -75,6 +76,19 @@ def without_one(rows: list[Row], keys: set[Hashable]) -> list[Row]:
 
 def contradicts(rows: Iterable[Row]) -> bool:
     """Returns whether no numbers that are not negative meet all rows."""
+    known = list(rows)
+    others = [one for one in known if one.is_other][:MOST_OTHERS]
+    known = [one for one in known if not one.is_other]
+    return all(is_never([*known, *signed]) for signed in product(*map(both_signs, others)))
+
+
+def both_signs(one: Row) -> list[Row]:
+    """Returns what is true of a sum that is not zero: it is at least one, or at most minus one."""
+    return [Row({key: sign * many for key, many in one.factors.items()}, sign * one.constant - 1, False) for sign in (1, -1)]
+
+
+def is_never(rows: list[Row]) -> bool:
+    """Returns whether no numbers that are not negative meet all rows, none of which says only that a sum is not zero."""
     left = with_signs(rows)
     while True:
         if any(map(is_false, left)):
@@ -87,7 +101,7 @@ def contradicts(rows: Iterable[Row]) -> bool:
 
 def about(rows: Iterable[Row], kept: set[Hashable]) -> list[Row]:
     """Returns what follows from rows for some of the numbers alone. If there are too many rows, not all of it is found."""
-    left = with_signs(rows)
+    left = with_signs(one for one in rows if not one.is_other)
     while True:
         keys = {key for one in left for key in one.factors} - kept
         if not keys or len(left) > MOST_ROWS:

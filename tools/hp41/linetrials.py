@@ -4,6 +4,7 @@ from __future__ import annotations
 import random
 import re
 from decimal import ROUND_DOWN, ROUND_HALF_UP, Context, Decimal
+from itertools import islice
 from typing import NamedTuple
 
 from .decks import Failure, block, ended, hexadecimal, run
@@ -11,7 +12,7 @@ from .lineclaims import Condition, Equation, Relation, Term, old
 from .linesteps import value_of
 from .linetheorems import Program
 from .settings import STACK, digits_of
-from .stubs import Sizes, stub_of
+from .stubs import Sizes, pages_of, stub_of
 from .values import text_of
 
 TRIALS, LIMIT, SEED, PAGE, SIZE, MEMORY = 60, 100_000, 41, "F", 16, 320
@@ -176,12 +177,8 @@ class LineTrials:
 
     def states(self) -> list[dict[str, str]]:
         """Returns states that meet the requirements."""
-        drawn = (self.draw() for _ in range(DRAWS))
-        found: list[dict[str, str]] = []
-        for state in drawn:
-            if len(found) < TRIALS and self.meets(state):
-                found.append(state)
-        return found
+        meeting = (state for state in (self.draw() for _ in range(DRAWS)) if self.meets(state))
+        return list(islice(meeting, TRIALS))
 
     def address(self, name: str) -> int:
         """Returns the address of a register."""
@@ -192,12 +189,15 @@ class LineTrials:
         views = "".join(f"show ram {self.address(name):03x}\n" for name in self.names)
         called = [f'XEQ "{self.label}"'.encode(), b"STOP"]
         deck = b""
-        for state in states:
-            driver = [b"CLX", *called] if OFF in state else called
-            stub = stub_of({self.address(name): digits for name, digits in state.items() if name != OFF}, {}, None)
-            deck += (f"reset\nsize {self.sizes.data}\n".encode() + block(b"load", hexadecimal(self.data)) + block(b"program", driver)
-                     + f"words {PAGE}\n{stub.text}end\ncall {PAGE}000\nstep {stub.steps}\nunplug {PAGE}\n".encode()
-                     + f"key R/S\nrun {LIMIT}\nshow display\n{views}".encode())
+        stubs = [stub_of({self.address(name): digits for name, digits in state.items() if name != OFF}, {}, None) for state in states]
+        left = iter(states)
+        # The first two words of the page say that it has no functions.
+        for page in pages_of(stubs, 2):
+            deck += f"unplug {PAGE}\nwords {PAGE}\n{page.text}end\n".encode()
+            for (place, stub), state in zip(page.stubs, left):
+                driver = [b"CLX", *called] if OFF in state else called
+                deck += (f"reset\nsize {self.sizes.data}\n".encode() + block(b"load", hexadecimal(self.data)) + block(b"program", driver)
+                         + f"call {PAGE}{place:03X}\nstep {stub.steps}\nkey R/S\nrun {LIMIT}\nshow display\n{views}".encode())
         status, output = run(deck, str(MEMORY))
         if status not in (0, 1):
             raise Failure(ended(status, "when it was asked to try the claims"), 3)

@@ -54,6 +54,7 @@ use Rattle.h41_reasoning.proofs.OneWord.{register_written, status_byte_cleared}
 use Rattle.h41_reasoning.proofs.Changes.{carry_at_most, copy_keeps, copy_number, either, left_digit, left_keeps, left_low, less_number}
 use Rattle.h41_reasoning.proofs.Changes.{loaded_digit, loading_keeps, not_less_number, one_digit, right_digit, right_keeps, right_top}
 use Rattle.h41_reasoning.proofs.Changes.{same_numbers, word_digit_0, word_digit_1, word_digit_2, word_keeps, word_number}
+use Rattle.h41_reasoning.proofs.Differences.{different_numbers}
 use Rattle.h41_reasoning.proofs.FieldWords.{a_added_to_c, a_decremented, a_incremented, b_added_to_a, b_subtracted_from_a, c_added_to_a}
 use Rattle.h41_reasoning.proofs.FieldWords.{c_complemented, c_decremented, c_doubled, c_incremented, c_negated, c_subtracted_from_a}
 use Rattle.h41_reasoning.proofs.FieldWords.{c_taken_from_a, operated}

@@ -3,7 +3,7 @@ memory, the processor's registers and the pointers have given values, or junk.""
 from __future__ import annotations
 
 from functools import lru_cache
-from typing import NamedTuple
+from typing import Iterable, Iterator, NamedTuple
 
 from .settings import DATA_NAME, DIGITS, FLAG_NAME, MEMORY_NAME, STACK, WIDE, Setting
 
@@ -13,7 +13,7 @@ DIGIT = (0x010, 0x050, 0x090, 0x0D0, 0x110, 0x150, 0x190, 0x1D0, 0x210, 0x250, 0
 C_IS_0, LDI, RAM_SLCT, WRIT_DATA = 0x04E, 0x130, 0x270, 0x2F0
 M_IS_C, N_IS_C, G_IS_C, ST_IS_C, T_IS_ST, B_AND_C, A_IS_C = 0x158, 0x070, 0x058, 0x358, 0x258, 0x0EE, 0x10E
 SLCT_P, SLCT_Q, SETDEC = 0x0A0, 0x0E0, 0x2A0
-IN_A_LINE = 40
+IN_A_LINE, PAGE_SIZE = 40, 4096
 
 # Register d with its flags when the calculator starts, the registers of ALPHA, and the first address of main memory.
 FLAGS_AT, FLAGS_AT_START = 0x00E, 0x0000002C048000
@@ -124,7 +124,29 @@ def stub_of(memory: dict[int, str], cpu: dict[str, str], target: int | None) -> 
     """Returns the words that set registers and then continue at the target, or return if there is no target."""
     first, second = setting_memory(tuple(memory.items())), setting_cpu(tuple(cpu.items()), bool(memory))
     last = f"{(target & 0xFF) << 2 | 1:X} {(target >> 8) << 2 | 2:X}\n" if target is not None else "3E0\n"
-    return Stub(first.text + second.text + last, first.words + second.words + 2, first.steps + second.steps + 1)
+    return Stub(first.text + second.text + last, first.words + second.words + len(last.split()), first.steps + second.steps + 1)
+
+
+class StubPage(NamedTuple):
+    """Several stubs in a page: the words as lines of a block, and the stubs, each with its place in the page."""
+    text: str
+    stubs: list[tuple[int, Stub]]
+
+
+def pages_of(stubs: Iterable[Stub], first: int = 0) -> Iterator[StubPage]:
+    """Yields as many stubs as fit into a page, from a place on, until all are in one. The words before are 000. To plug a page takes the
+    bench longer than to call a function in it."""
+    found: list[tuple[int, Stub]] = []
+    text, place = "0\n" * first, first
+    for stub in stubs:
+        if place + stub.words > PAGE_SIZE:
+            yield StubPage(text, found)
+            text, found, place = "0\n" * first, [], first
+        text += stub.text
+        found.append((place, stub))
+        place += stub.words
+    if found:
+        yield StubPage(text, found)
 
 
 def junk_of(seed: int) -> dict[str, str]:

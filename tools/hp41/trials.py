@@ -11,7 +11,7 @@ from .decks import BENCH, NO_ANSWER, Failure, ended
 from .codes import Code, known_at_start
 from .constants import Field, constants_of, fields_of, registers_of
 from .plugging import Plugged, active_bank
-from .stubs import stub_of
+from .stubs import Stub, pages_of, stub_of
 
 # How many states are tried, how many are drawn for each that meets the requirements, and the steps after which a call is ended. In the
 # first states, one field has a chosen number; so many are drawn for each of these.
@@ -197,20 +197,26 @@ def bounds_of(numbers: Iterable[int], is_decimal: bool) -> list[int]:
     return sorted(found | ({int(str(number), 16) for number in found} if is_decimal else set()))
 
 
+def stub_before(state: dict[str, str], entry: int) -> Stub:
+    """Returns the words that lead to a state, and then continue at an address."""
+    cpu = {("cpu.T" if name == "T" else name): value for name, value in state.items() if name != "CY" and not name[0].isdigit()}
+    memory = {int(name, 16): value for name, value in state.items() if name[0].isdigit()}
+    return stub_of(memory, cpu, entry)
+
+
 def run_all(code: Code, label: str, states: list[dict[str, str]]) -> list[Trial]:
     """Returns what calls of a function do from some states."""
     free = code.free or ("F" if code.banks[0].page != 0xF else "E")
     plugged = Plugged(code, label)
-    if plugged.entry is None:
+    entry = plugged.entry
+    if entry is None:
         return []
     deck = plugged.text
     shown = "show cpu\n" + "".join(f"show ram {name}\n" for name in shown_memory(code, label)) + plugged.shown
-    for state in states:
-        cpu = {("cpu.T" if name == "T" else name): value for name, value in state.items() if name != "CY" and not name[0].isdigit()}
-        memory = {int(name, 16): value for name, value in state.items() if name[0].isdigit()}
-        stub = stub_of(memory, cpu, plugged.entry)
-        deck += (f"reset\nunplug {free}\nwords {free}\n{stub.text}end\ncall {free}000\nstep {stub.steps + plugged.steps}\n{shown}"
-                 f"run {LIMIT}\n{shown}")
+    for page in pages_of(stub_before(state, entry) for state in states):
+        deck += f"unplug {free}\nwords {free}\n{page.text}end\n"
+        for place, stub in page.stubs:
+            deck += f"reset\ncall {free}{place:03X}\nstep {stub.steps + plugged.steps}\n{shown}run {LIMIT}\n{shown}"
     ran = subprocess.run([BENCH, "run", "-"], input=deck.encode(), stdout=subprocess.PIPE, check=False)
     if ran.returncode == NO_ANSWER:
         raise Failure("./bench gave no answer: see its message above", NO_ANSWER)

@@ -349,10 +349,14 @@ class Step:
         if "<" in kind:
             proof = f"{'less' if value else 'not_less'}_number {argument(x)} {argument(y)} {lo} {hi} {proved}"
             return self.run.knowledge.fact(self.node, *((one, "<", other) if value else (other, "<=", one)), proof)
-        if value:
+        registers = f"{argument(x)} {argument(y)}"
+        if not value:
+            return self.run.knowledge.fact(self.node, one, "=", other, f"same_numbers at_a_place {base} {registers} {lo} {hi} {proved}")
+        numbers = self.run.knowledge.numbers_in(base, (x, y), lo, hi)
+        if not numbers:
             return None
-        return self.run.knowledge.fact(self.node, one, "=", other,
-                                       f"same_numbers at_a_place {base} {argument(x)} {argument(y)} {lo} {hi} {proved}")
+        return self.run.knowledge.fact(self.node, one, "<>", other, f"different_numbers at_a_place {base} {lo} {hi} {registers} "
+                                       f"(omega arith) (omega arith) {' '.join(numbers)} {proved}")
 
     def split(self, condition: str, taken: Callable[[str], tuple[str, State | None]],
               passed: Callable[[str], tuple[str, State | None]]) -> list[Node]:

@@ -221,6 +221,10 @@ function refusedOf({ text, refused }) {
     before. */
 const refusedNow = () => entries.map((entry, at) => [entry, at]).slice(since).filter(([entry]) => !entry.isRepeated && isRefused(entry));
 
+/** Returns whether a key was refused because it is not supported: a function is then refused as 13, and another key as 18. In program mode
+    lines of such functions are stored, and so a key is refused for another reason there. */
+const isReason = (text, refusal) => text && refusal.startsWith(text.endsWith("the line is stored.") ? "! 13 " : "! 18 ");
+
 /** Shows the refusals of the commands that the last action executed, with the usual causes of the last one. */
 function tellRefusals() {
   const refused = refusedNow();
@@ -229,7 +233,7 @@ function tellRefusals() {
   const words = refusedOf(entry);
   const count = refused.length > 1 ? `${refused.length} commands were refused, the first is command ${commandNumber(at)}: ` : "";
   const later = refused.length === 1 && at < entries.length - 1 && !waits ? `command ${commandNumber(at)} was refused: ` : "";
-  const why = reasons[at] ? `: ${reasons[at]}` : "";
+  const why = isReason(reasons[at], entry.reply.at(-1)) ? `: ${reasons[at]}` : "";
   const text = `${count}${later}${entry.reply.at(-1)}  ${words}${why}`;
   if (by("refusal").textContent === text) return;
   tell(text);

@@ -71,7 +71,9 @@ async function pressNow(names) {
     if (isGone) return;
     if (name === "R/S" && isChanging()) await ask({ do: "stop" });
     const before = present();
-    reasons[entries.length] = unsupported[before.shift ? `SHIFT ${name}` : name];
+    // While ALPHA is on or a prompt is open, a key with a letter has another meaning.
+    const isOther = /ALPHA|prompt/.test(before.keys_if) && Object.values(letters).includes(name);
+    reasons[entries.length] = isOther ? null : unsupported[before.shift ? `SHIFT ${name}` : name];
     await ask({ do: "give", deck: `key ${name}\n`, first: true });
     const { last } = present();
     flash(name, last[0] === `key ${name}` && last[1].length > 0);

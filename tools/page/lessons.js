@@ -139,6 +139,11 @@ function closeQuestion() {
   by("verdict").textContent = "";
 }
 
+/** Returns an answer as the functions below read numbers: with a plain minus and no plus, without spaces around its E or between groups of
+    three digits, and with an E for a power of ten such as `*10^4`. */
+const plainNumber = (text) => text.replace(/[\u2010-\u2014\u2212]/g, "-").replace(/ *[×·*X] *10 *(?:\^|\*\*) */, "E").replace(/ *E */, "E")
+  .replace(/^\+ *|(?<=E)\+/g, "").replace(/^- +/, "-").replace(/(?<=\d) (?=\d{3}(?!\d))/g, "");
+
 /** Returns the number that a text spells with the separators of the display, which flag 28 chooses, and the place value of its last digit;
     NaN if it spells none. An exponent may follow a space, a minus or an E. */
 function numberShown(text, flags) {
@@ -153,21 +158,26 @@ function numberShown(text, flags) {
 /** Returns whether an answer spells a number: in any usual way, or as the display writes it. If the display shows this number in fewer
     digits, the answer may be that. */
 function isSameNumber(given, wanted, name, { flags: [flags], display }) {
-  const answers = [given === "" ? NaN : Number(given), numberShown(given, flags)[0]];
+  const plain = plainNumber(given);
+  const answers = [/^[-.\d]/.test(plain) && !/^-?0[XBO]/.test(plain) ? Number(plain) : NaN, numberShown(plain, flags)[0]];
   const value = name === "display" || wanted === "" ? numberShown(wanted, flags)[0] : Number(wanted);
   if (answers.includes(value) && !Number.isNaN(value)) return true;
   const [rounded, unit] = numberShown(display[0].trim(), flags);
   return name === "X" && answers.includes(rounded) && !Number.isNaN(rounded) && Math.abs(rounded - value) < 0.51 * unit;
 }
 
-/** Returns whether an answer names a value in a state: numbers may be written in other ways, digits without the zeros before them, return
-    addresses without the empty ones after them, and what the display shows without the `_` after it. */
+/** Returns whether an answer names a value in a state: numbers may be written in other ways, digits without the zeros before them and in
+    groups, return addresses without the empty ones after them, what the display shows without the `_` after it, and an empty text as "". */
 function isSame(answer, value, { name, isWord }, state) {
   const [given, wanted] = [answer, value].map((text) => text.trim().toUpperCase().replace(/^"(.*)"$/, "$1"));
-  if (given === wanted) return true;
+  if (given === wanted || answer.trim() === '""' && value === "empty") return true;
   if (name === "RTN") return given !== "" && given.split(/[ ,]+/).join(" ").padEnd(wanted.length, " 0000") === wanted;
-  if (isWord) return /^[0-9A-F]+$/.test(given) && given.replace(/^0+(?=.)/, "") === wanted.replace(/^0+(?=.)/, "");
-  if (name === "ALPHA") return false;
+  if (isWord) {
+    const digits = given.replaceAll(" ", "").replace(/^0X(?=.)/, "");
+    return /^[0-9A-F]+$/.test(digits) && digits.replace(/^0+(?=.)/, "") === wanted.replace(/^0+(?=.)/, "");
+  }
+  // A text is no number, even if it has digits.
+  if (name === "ALPHA" || name !== "display" && value.startsWith('"')) return false;
   const typed = name === "display" ? wanted.replace(/_$/, "").trim() : wanted;
   return given !== "" && given === typed || isSameNumber(given, typed, name, state);
 }

@@ -225,7 +225,7 @@ async function findIfOff(of, number) {
 }
 
 let listing = null;         // the page that is listed: its page, its bank, how it is listed, and its rows
-let plugsKnown = -1;        // for which number of plugs the plugged banks are listed
+let plugsKnown = "";        // for which session and number of plugs the plugged banks are listed
 let listedAt = -1;          // the number of the change after which the page was listed
 
 /** Lists the page that is chosen in the panel. */
@@ -249,7 +249,8 @@ function listedNext(state) {
   if ((listing.kind === "words") !== (mode === "Micro")) return null;
   if (mode === "Micro") {
     const held = new Map(listing.rows.map(([at, , words]) => [at, words]));
-    const isSame = ([at, , text]) => !held.has(at) || held.get(at).startsWith(text.slice(0, 9).trim());
+    // The second word of an instruction may be in the next page.
+    const isSame = ([at, , text]) => !held.has(at) || held.get(at).startsWith(text.slice(0, at.endsWith("FFF") ? 3 : 9).trim());
     return held.has(place) && state.listing.every(isSame) ? place : null;
   }
   // Programs run in bank 1.
@@ -259,8 +260,8 @@ function listedNext(state) {
 
 /** Shows the page that is listed, whether it runs or not, and what the pages contain. */
 function showModules(state) {
-  if (plugsKnown !== plugs && !isGone) {
-    plugsKnown = plugs;
+  if (plugsKnown !== `${session} ${plugs}` && !isGone) {
+    plugsKnown = `${session} ${plugs}`;
     act(findPages);
   } else if (mayBeWritten()) {
     act(listPage);

@@ -63,9 +63,10 @@ function memoryChanged(state, before, hasLines) {
   return others.length ? [...found, `${others.length} registers from ${hexadecimal(addressAt(others[0]))} on`] : found;
 }
 
-/** Returns the instruction or line that was executed between two states, as the bench listed it; null if it was not exactly one. */
+/** Returns the instruction or line that was executed between two states, as the bench listed it; null if it was not exactly one, or if the
+    state before is not kept. */
 function lineMade(state, before) {
-  if (state.made !== 1) return null;
+  if (state.made !== 1 || state === before) return null;
   const [mode, place] = before.pos[0].split(" ");
   const found = mode === "Micro" ? before.listing.find(([at]) => at === place)?.[2].slice(9) : before.line[1];
   return found ? `${mode} ${place} ${found}` : null;
@@ -253,6 +254,8 @@ async function runTo(kind, place) {
   const words = `${kind} ${kind === "l" ? Number(place) : place}\n`;
   const isSet = hasBreak(present(), kind, place);
   if (!isSet) await ask({ do: "give", deck: `break ${words}`, first: true });
+  // If there are too many breakpoints, the refusal is shown, and nothing runs past the line.
+  if (!hasBreak(present(), kind, place)) return;
   try {
     await runOn();
     while (isChanging()) await moment(50);

@@ -12,7 +12,6 @@ use Rattle.h41_positions.specs.LabelledMachine.{LabelledMachine, begun_ram, mach
 use Rattle.h41_positions.specs.declared.position.Position.{Position}
 use Rattle.h41_ram.proofs.Marks.{stays}
 use Rattle.h41_ram.specs.RamState.{KeepsMark, RamState}
-use Rattle.h41_rows.specs.RowMarks.{LeavesMark}
 
 -- No line can be read at the position.
 pub record Refuses (pages : PageMap) (old new : LabelledMachine) : Type 0 where
@@ -48,18 +47,17 @@ pub record Takes {A : Type 0} (pages : PageMap) (old new : LabelledMachine) (res
 pub takes : {A : Type 0} (pages : PageMap) (old begun new : LabelledMachine) (line : Line) (next : Position)
     (result : Result A FocalRefusal)
     → begun ≡ with_line_begun old → Stands pages (machine_of begun) (Ok (line, next)) → OnErr result (machine_of new ≡ machine_of begun)
-    → AsksOf (Program next) line begun new → KeepsMark begun.ram new.ram → LeavesMark begun.ram new.ram
-    → Takes pages old new result
-takes pages old begun new line next result is stands unchanged asks keeps left =
+    → AsksOf (Program next) line begun new → Takes pages old new result
+takes pages old begun new line next result is stands unchanged kept =
     record {
       unchanged = still result unchanged;
       kept = (
         Ok (line, next),
         subst (λ (machine : Machine). Stands pages machine (Ok (line, next))) (ap machine_of is) stands,
-        subst (λ (labelled : LabelledMachine). AsksOf (Program next) line labelled new) is asks,
+        (subst (λ (labelled : LabelledMachine). AsksOf (Program next) line labelled new) is kept).asks,
       );
-      mark = subst (λ (labelled : LabelledMachine). KeepsMark labelled.ram new.ram) is keeps;
-      clear = left stands.0 ∙ ap (λ (labelled : LabelledMachine). labelled.ram.touched) is;
+      mark = subst (λ (labelled : LabelledMachine). KeepsMark labelled.ram new.ram) is kept.mark;
+      clear = kept.left stands.0 ∙ ap (λ (labelled : LabelledMachine). labelled.ram.touched) is;
     }
   where
     still : {B : Type 0} (result : Result B FocalRefusal) → OnErr result (machine_of new ≡ machine_of begun)

@@ -1,5 +1,5 @@
 -- Lines are executed, given their operands and their rows.
-use Rattle.std.specs.Prelude.{IsTrue, List, if◌then◌else◌}
+use Rattle.std.specs.Prelude.{IsTrue, if◌then◌else◌}
 use Rattle.std.proofs.Common.{◌≡◌, ℕ, Bool, true, false, IfNone, IfSome, Option, Some, None, Ok, Err, Result, refl}
 use Rattle.h41_codes.specs.declared.functions.Function.{Function}
 use Rattle.h41_codes.specs.declared.functions.ParameterFunction.{ParameterFunction}
@@ -23,8 +23,8 @@ use Rattle.h41_focal.specs.declared.uses.RegisterUse.{RegisterUse}
 use Rattle.h41_focal.specs.declared.works.FunctionWork.{FunctionWork}
 use Rattle.h41_decimal.specs.declared.ten.Ten.{Ten}
 use Rattle.h41_plain_numbers.specs.MemoryNumbers.{HasNumber}
-use Rattle.h41_labels.specs.KeptAnswers.{KeepsSearch}
-use Rattle.h41_labels.specs.declared.search.KeptAnswer.{KeptAnswer}
+use Rattle.h41_focal.specs.private.Searching.{KeepsApart, KeepsAsking, KeepsRest}
+use Rattle.h41_positions.specs.LabelledMachine.{LabelledMachine}
 use Rattle.h41_pages.specs.PageMap.{PageMap}
 use Rattle.h41_positions.proofs.PageAnswers.{both_here}
 use Rattle.h41_positions.specs.Positions.{ShortLineAt}
@@ -116,11 +116,16 @@ pub short_taken : (pages : PageMap) (origin : Origin) (function : RegisterFuncti
 short_taken pages origin function register (Ok address) old new result found carries = rw (← found) carries
 short_taken pages origin function register (Err fault) old new result found fails = rw (← found) fails
 
--- A line without a search leaves the label cache unchanged, whether it is supported or not.
-pub unsearched : (memory : RegisterMap) (out : Bool) (old new : List KeptAnswer) → new ≡ old
-    → KeepsSearch memory (if out then None else None) old new
-unsearched memory true old new same = same
-unsearched memory false old new same = same
+-- A line without a search, whether it is supported or not.
+pub rest_kept : (old new : LabelledMachine) → KeepsRest old new → KeepsAsking None old new
+rest_kept old new keeps = record { asks = keeps.labels; mark = keeps.mark; left = keeps.left }
+
+pub rest_apart : (address : ℕ) (old new : LabelledMachine) → KeepsRest old new → KeepsApart address old new
+rest_apart address old new keeps = record { mark = keeps.mark; labels = keeps.labels; left = λ apart. keeps.left }
+
+pub out_kept : (out : Bool) (old new : LabelledMachine) → KeepsRest old new → KeepsAsking (if out then None else None) old new
+out_kept true old new keeps = rest_kept old new keeps
+out_kept false old new keeps = rest_kept old new keeps
 
 -- The line at the position is a number line or a short line, by the answers of program memory.
 pub number_stands : (pages : PageMap) (machine : Machine) (at : ℕ) (number : Ten) (next : ℕ)

@@ -2,10 +2,11 @@
 
 ghost use Rattle.std.specs.Prelude.{◌≡◌, ◌≤◌, ℕ, IfNone, IfSome, length};
 ghost use Rattle.h41_codes.specs.declared.line.Line.TheVariants as lines;
-ghost use Rattle.h41_positions.specs.LabelledMachine.{Keeps, machine_of};
+ghost use Rattle.h41_positions.specs.LabelledMachine.{machine_of};
 ghost use Rattle.h41_focal.specs.private.Carrying.{DoesLine, DoesWork, IsAppended, ReplacesAlpha};
 ghost use Rattle.h41_focal.specs.private.Carrying.{PutsText};
 ghost use Rattle.h41_focal.specs.declared.works.FunctionWork.TheVariants.{Alpha};
+ghost use Rattle.h41_focal.specs.private.Searching.{KeepsRest};
 ghost use Rattle.h41_ram.specs.RamState.{KeepsMark};
 ghost use Rattle.h41_rows.specs.RowMarks.{LeavesMark};
 
@@ -31,8 +32,7 @@ pub fn change_alpha<const REGS: usize>(
 ) -> LineOutcome
     ensures done { DoesWork origin (Alpha work) (machine_of machine.old)
         (machine_of machine.new) result }
-    ensures keeps { Keeps machine.old machine.new }
-    ensures left { LeavesMark machine.old.ram machine.new.ram }
+    ensures keeps { KeepsRest machine.old machine.new }
 {
     match work {
         AlphaWork::Clear => {
@@ -62,8 +62,7 @@ pub fn text_line<const REGS: usize>(
 ) -> LineOutcome
     ensures done { DoesLine origin (lines.Text text.now) (machine_of machine.old)
         (machine_of machine.new) result }
-    ensures keeps { Keeps machine.old machine.new }
-    ensures left { LeavesMark machine.old.ram machine.new.ram }
+    ensures keeps { KeepsRest machine.old machine.new }
 {
     put_text(&mut machine.ram, text.characters());
     go_on_lifting(&mut machine.focal, origin);

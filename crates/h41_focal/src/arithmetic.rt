@@ -1,11 +1,11 @@
 //! Functions that compute a value from X, or from Y and X.
 
 ghost use Rattle.std.specs.Prelude.{ℕ};
-ghost use Rattle.h41_positions.specs.LabelledMachine.{Keeps, machine_of};
+ghost use Rattle.h41_positions.specs.LabelledMachine.{machine_of};
 ghost use Rattle.h41_focal.specs.private.Carrying.{DoesWork};
 ghost use Rattle.h41_focal.specs.declared.works.FunctionWork.TheVariants.{ChangeSign, OfX, OfYAndX};
 ghost use Rattle.h41_focal.specs.declared.works.FunctionWork.TheVariants.{Percent, Square};
-ghost use Rattle.h41_rows.specs.RowMarks.{LeavesMark};
+ghost use Rattle.h41_focal.specs.private.Searching.{KeepsRest};
 
 use crate::addresses::{X, Y};
 use crate::course::{fail, go_on_lifting};
@@ -26,8 +26,7 @@ pub fn of_y_and_x<const REGS: usize>(
 ) -> LineOutcome
     ensures done { DoesWork origin (OfYAndX value) (machine_of machine.old)
         (machine_of machine.new) result }
-    ensures keeps { Keeps machine.old machine.new }
-    ensures left { LeavesMark machine.old.ram machine.new.ram }
+    ensures keeps { KeepsRest machine.old machine.new }
 {
     match compute_of_two(&machine.ram, value, Y, X) {
         Ok(register) => {
@@ -50,8 +49,7 @@ pub fn of_x<const REGS: usize>(
 ) -> LineOutcome
     ensures done { DoesWork origin (OfX value) (machine_of machine.old)
         (machine_of machine.new) result }
-    ensures keeps { Keeps machine.old machine.new }
-    ensures left { LeavesMark machine.old.ram machine.new.ram }
+    ensures keeps { KeepsRest machine.old machine.new }
 {
     match compute_of_one(&machine.ram, value, X) {
         Ok(register) => {
@@ -67,8 +65,7 @@ pub fn of_x<const REGS: usize>(
 /// then the outcome is `Failed`, or `Done` if flag 25 was set.
 pub fn square<const REGS: usize>(machine: &mut Machine<REGS>, origin: Origin) -> LineOutcome
     ensures done { DoesWork origin Square (machine_of machine.old) (machine_of machine.new) result }
-    ensures keeps { Keeps machine.old machine.new }
-    ensures left { LeavesMark machine.old.ram machine.new.ram }
+    ensures keeps { KeepsRest machine.old machine.new }
 {
     match compute_of_two(&machine.ram, ValueOfTwo::Product, X, X) {
         Ok(register) => {
@@ -85,8 +82,7 @@ pub fn square<const REGS: usize>(machine: &mut Machine<REGS>, origin: Origin) ->
 pub fn percent<const REGS: usize>(machine: &mut Machine<REGS>, origin: Origin) -> LineOutcome
     ensures done { DoesWork origin Percent (machine_of machine.old)
         (machine_of machine.new) result }
-    ensures keeps { Keeps machine.old machine.new }
-    ensures left { LeavesMark machine.old.ram machine.new.ram }
+    ensures keeps { KeepsRest machine.old machine.new }
 {
     match compute_of_two(&machine.ram, ValueOfTwo::Percentage, Y, X) {
         Ok(register) => {
@@ -103,8 +99,7 @@ pub fn percent<const REGS: usize>(machine: &mut Machine<REGS>, origin: Origin) -
 pub fn change_sign<const REGS: usize>(machine: &mut Machine<REGS>, origin: Origin) -> LineOutcome
     ensures done { DoesWork origin ChangeSign (machine_of machine.old)
         (machine_of machine.new) result }
-    ensures keeps { Keeps machine.old machine.new }
-    ensures left { LeavesMark machine.old.ram machine.new.ram }
+    ensures keeps { KeepsRest machine.old machine.new }
 {
     match compute_of_one(&machine.ram, ValueOfOne::Negative, X) {
         Ok(register) => {

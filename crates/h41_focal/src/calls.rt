@@ -4,10 +4,10 @@ ghost use Rattle.std.specs.Prelude.{◌≡◌, IsTrue, OnErr, true};
 ghost use Rattle.h41_focal.specs.OutsideCalls.{IsNamed};
 ghost use Rattle.h41_focal.specs.private.Arrivals.{outcome_of_entry, state_in_entry};
 ghost use Rattle.h41_focal.specs.private.Carrying.{CallsEntry, CallsNamed, IsFunction};
+ghost use Rattle.h41_focal.specs.private.Searching.{KeepsRest};
 ghost use Rattle.h41_pages.specs.FunctionTables.{entry_at};
-ghost use Rattle.h41_positions.specs.LabelledMachine.{Keeps, machine_of};
+ghost use Rattle.h41_positions.specs.LabelledMachine.{machine_of};
 ghost use Rattle.h41_ram.specs.RegisterMap.{is_sound};
-ghost use Rattle.h41_rows.specs.RowMarks.{LeavesMark};
 
 use crate::course::fail;
 use crate::functions::plain;
@@ -34,8 +34,7 @@ pub fn call_module<const REGS: usize>(
 ) -> LineOutcome
     ensures done { CallsEntry origin true (entry_at pages.now number entry)
         (machine_of machine.old) (machine_of machine.new) result }
-    ensures keeps { Keeps machine.old machine.new }
-    ensures left { LeavesMark machine.old.ram machine.new.ram }
+    ensures keeps { KeepsRest machine.old machine.new }
 {
     call_entry(
         machine,
@@ -61,8 +60,7 @@ pub fn call_named<const REGS: usize>(
     ensures done { CallsNamed pages.now origin name.now (machine_of machine.old)
         (machine_of machine.new) result }
     ensures unchanged { OnErr result (machine.new ≡ machine.old) }
-    ensures keeps { Keeps machine.old machine.new }
-    ensures left { LeavesMark machine.old.ram machine.new.ram }
+    ensures keeps { KeepsRest machine.old machine.new }
 {
     if let Some((number, entry)) = pages.find(name) {
         return Ok(call_entry(machine, origin, false, pages.entry(number, entry)));
@@ -83,8 +81,7 @@ fn call_entry<const REGS: usize>(
 ) -> LineOutcome
     ensures done { CallsEntry origin lifts entry (machine_of machine.old) (machine_of machine.new)
         result }
-    ensures keeps { Keeps machine.old machine.new }
-    ensures left { LeavesMark machine.old.ram machine.new.ram }
+    ensures keeps { KeepsRest machine.old machine.new }
 {
     match entry {
         Some(entry) => begin_entry(&mut machine.focal, origin, lifts, entry),

@@ -1,12 +1,12 @@
 //! The position at which a program continues after a line or after its error, and whether stack lift is then on.
 
 ghost use Rattle.std.specs.Prelude.{◌≡◌};
-ghost use Rattle.h41_positions.specs.LabelledMachine.{Keeps, machine_of};
+ghost use Rattle.h41_positions.specs.LabelledMachine.{machine_of};
 ghost use Rattle.h41_focal.specs.private.Carrying.{LineFails, fault_outcome};
 ghost use Rattle.h41_focal.specs.private.Carrying.{on_to_next};
+ghost use Rattle.h41_focal.specs.private.Searching.{KeepsRest};
 ghost use Rattle.h41_rows.specs.declared.fault.LineFault.{LineFault};
 ghost use Rattle.h41_rows.specs.Rows.{AsItWas, On};
-ghost use Rattle.h41_rows.specs.RowMarks.{LeavesMark};
 
 use crate::machine::Machine;
 use crate::origin::Origin;
@@ -48,8 +48,7 @@ pub fn fail<const REGS: usize>(
     fault: LineFault,
 ) -> LineOutcome
     ensures done { LineFails origin fault (machine_of machine.old) (machine_of machine.new) result }
-    ensures keeps { Keeps machine.old machine.new }
-    ensures left { LeavesMark machine.old.ram machine.new.ram }
+    ensures keeps { KeepsRest machine.old machine.new }
 {
     if passes_fault(machine, origin) {
         LineOutcome::Done
@@ -64,8 +63,7 @@ pub fn fail<const REGS: usize>(
 fn passes_fault<const REGS: usize>(machine: &mut Machine<REGS>, origin: Origin) -> bool
     ensures done { (fault : LineFault) → LineFails origin fault (machine_of machine.old)
         (machine_of machine.new) (fault_outcome result fault) }
-    ensures keeps { Keeps machine.old machine.new }
-    ensures left { LeavesMark machine.old.ram machine.new.ram }
+    ensures keeps { KeepsRest machine.old machine.new }
 {
     if machine.ram.flag(ERROR_IGNORE) {
         machine.ram.set_flag(ERROR_IGNORE, false);

@@ -1,10 +1,10 @@
 //! Lines that change the display or stop the program.
 
 ghost use Rattle.std.specs.Prelude.{ℕ};
-ghost use Rattle.h41_positions.specs.LabelledMachine.{Keeps, machine_of};
+ghost use Rattle.h41_positions.specs.LabelledMachine.{machine_of};
 ghost use Rattle.h41_focal.specs.private.Carrying.{DoesWork};
 ghost use Rattle.h41_focal.specs.declared.works.FunctionWork.TheVariants.{Display};
-ghost use Rattle.h41_rows.specs.RowMarks.{LeavesMark};
+ghost use Rattle.h41_focal.specs.private.Searching.{KeepsRest};
 
 use crate::course::{go_on, go_on_lifting};
 use crate::machine::Machine;
@@ -21,8 +21,7 @@ pub fn show<const REGS: usize>(
 ) -> LineOutcome
     ensures done { DoesWork origin (Display work) (machine_of machine.old)
         (machine_of machine.new) result }
-    ensures keeps { Keeps machine.old machine.new }
-    ensures left { LeavesMark machine.old.ram machine.new.ram }
+    ensures keeps { KeepsRest machine.old machine.new }
 {
     match work {
         DisplayWork::ViewAlpha => {

@@ -1,13 +1,13 @@
 //! Program lines with a flag, which set, clear or test it.
 
 ghost use Rattle.std.specs.Prelude.{◌≡◌, ℕ, ◌<◌, OnErr, IsTrue};
-ghost use Rattle.h41_positions.specs.LabelledMachine.{Keeps, machine_of};
+ghost use Rattle.h41_positions.specs.LabelledMachine.{machine_of};
 ghost use Rattle.h41_focal.specs.private.Carrying.{CarriesFlag, ClearsFlag};
 ghost use Rattle.h41_rows.specs.RowEffects.{agrees};
 ghost use Rattle.h41_focal.specs.declared.uses.FlagUse.TheVariants.{Ask};
+ghost use Rattle.h41_focal.specs.private.Searching.{KeepsRest};
 ghost use Rattle.h41_ram.specs.RegisterMap.{flag_of};
 ghost use Rattle.h41_ram.specs.RegisterMap.{is_sound};
-ghost use Rattle.h41_rows.specs.RowMarks.{LeavesMark};
 
 use crate::course::go_on_lifting;
 use crate::machine::Machine;
@@ -43,8 +43,7 @@ fn ask_flag<const REGS: usize>(
     ensures carried { CarriesFlag pages.now origin (Ask on) flag (machine_of machine.old)
         (machine_of machine.new) result }
     ensures unchanged { OnErr result (machine.new ≡ machine.old) }
-    ensures keeps { Keeps machine.old machine.new }
-    ensures left { LeavesMark machine.old.ram machine.new.ram }
+    ensures keeps { KeepsRest machine.old machine.new }
 {
     let holds = agrees_with(&machine.ram, flag, on);
     let lead = lead(&machine.ram, pages, origin, holds)?;
@@ -68,8 +67,7 @@ fn ask_and_clear_flag<const REGS: usize>(
     ensures carried { ClearsFlag pages.now origin on flag (machine_of machine.old)
         (machine_of machine.new) result }
     ensures unchanged { OnErr result (machine.new ≡ machine.old) }
-    ensures keeps { Keeps machine.old machine.new }
-    ensures left { LeavesMark machine.old.ram machine.new.ram }
+    ensures keeps { KeepsRest machine.old machine.new }
 {
     let holds = agrees_with(&machine.ram, flag, on);
     let lead = lead(&machine.ram, pages, origin, holds)?;
@@ -92,8 +90,7 @@ pub fn use_flag<const REGS: usize>(
     ensures carried { CarriesFlag pages.now origin taken flag (machine_of machine.old)
         (machine_of machine.new) result }
     ensures unchanged { OnErr result (machine.new ≡ machine.old) }
-    ensures keeps { Keeps machine.old machine.new }
-    ensures left { LeavesMark machine.old.ram machine.new.ram }
+    ensures keeps { KeepsRest machine.old machine.new }
 {
     match taken {
         FlagUse::Change(on) => {

@@ -1,11 +1,11 @@
 //! Executing functions without an operand, for example `+` or `CLX`.
 
 ghost use Rattle.std.specs.Prelude.{◌≡◌, OnErr, IsTrue};
-ghost use Rattle.h41_positions.specs.LabelledMachine.{Keeps, machine_of};
+ghost use Rattle.h41_positions.specs.LabelledMachine.{machine_of};
 ghost use Rattle.h41_focal.specs.private.Carrying.{TakesAs};
+ghost use Rattle.h41_focal.specs.private.Searching.{KeepsRest};
 ghost use Rattle.h41_codes.specs.declared.line.Line.TheVariants.{Plain};
 ghost use Rattle.h41_ram.specs.RegisterMap.{is_sound};
-ghost use Rattle.h41_rows.specs.RowMarks.{LeavesMark};
 
 use crate::alpha_lines::change_alpha;
 use crate::arithmetic::{change_sign, of_x, of_y_and_x, percent, square};
@@ -36,8 +36,7 @@ pub fn plain<const REGS: usize>(
     ensures taken { TakesAs pages.now origin (Plain function) (machine_of machine.old)
         (machine_of machine.new) result }
     ensures unchanged { OnErr result (machine.new ≡ machine.old) }
-    ensures keeps { Keeps machine.old machine.new }
-    ensures left { LeavesMark machine.old.ram machine.new.ram }
+    ensures keeps { KeepsRest machine.old machine.new }
 {
     match work_of(function) {
         Some(work) => match work {
@@ -74,8 +73,7 @@ pub fn plain_at_once<const REGS: usize>(
     ensures taken { TakesAs pages.now origin (Plain function) (machine_of machine.old)
         (machine_of machine.new) result }
     ensures unchanged { OnErr result (machine.new ≡ machine.old) }
-    ensures keeps { Keeps machine.old machine.new }
-    ensures left { LeavesMark machine.old.ram machine.new.ram }
+    ensures keeps { KeepsRest machine.old machine.new }
 {
     match work_of(function) {
         Some(FunctionWork::OfYAndX(value)) => Ok(of_y_and_x(machine, origin, value)),

@@ -2,15 +2,13 @@
 
 ghost use Rattle.std.specs.Prelude.{◌≡◌, ℕ, IsTrue, OnErr, Some};
 ghost use Rattle.h41_positions.specs.LabelledMachine.{local_search};
-ghost use Rattle.h41_positions.specs.LabelledMachine.{Keeps, machine_of};
+ghost use Rattle.h41_positions.specs.LabelledMachine.{machine_of};
 ghost use Rattle.h41_focal.specs.private.Arrivals.{ReturnsFrom, answer_at, focal_at};
 ghost use Rattle.h41_focal.specs.private.Carrying.{GoesBack, GoesToLabel, GoesToName};
-ghost use Rattle.h41_focal.specs.private.Searching.{AsksFrom};
+ghost use Rattle.h41_focal.specs.private.Searching.{AsksFrom, KeepsRest};
 ghost use Rattle.h41_labels.specs.KeptAnswers.{IsRight};
 ghost use Rattle.h41_labels.specs.declared.search.Search.TheVariants.{Global};
-ghost use Rattle.h41_ram.specs.RamState.{KeepsMark};
 ghost use Rattle.h41_ram.specs.RegisterMap.{is_sound};
-ghost use Rattle.h41_rows.specs.RowMarks.{LeavesMark};
 
 use crate::calls::call_named;
 use crate::course::fail;
@@ -41,8 +39,6 @@ pub fn to_label<const REGS: usize>(
         (machine_of machine.new) result }
     ensures kept { AsksFrom origin (λ from. local_search from label)
         machine.old machine.new }
-    ensures mark { KeepsMark machine.old.ram machine.new.ram }
-    ensures left { LeavesMark machine.old.ram machine.new.ram }
 {
     let from = match origin {
         Origin::Program(next) => next,
@@ -71,8 +67,6 @@ pub fn to_name<const REGS: usize>(
         (machine_of machine.new) result }
     ensures unchanged { OnErr result (machine_of machine.new ≡ machine_of machine.old) }
     ensures kept { AsksFrom origin (λ from. Some (Global name)) machine.old machine.new }
-    ensures mark { KeepsMark machine.old.ram machine.new.ram }
-    ensures left { LeavesMark machine.old.ram machine.new.ram }
 {
     match (machine.focal.global(&machine.ram, name), branch) {
         (Some(byte), _) => {
@@ -125,8 +119,7 @@ pub fn go_back<const REGS: usize>(
     requires { IsTrue (is_sound machine.old.ram.registers) }
     ensures done { GoesBack pages.now origin
         (machine_of machine.old) (machine_of machine.new) result }
-    ensures keeps { Keeps machine.old machine.new }
-    ensures left { LeavesMark machine.old.ram machine.new.ram }
+    ensures keeps { KeepsRest machine.old machine.new }
 {
     match origin {
         Origin::Program(_) => return_from(machine, pages),
@@ -143,8 +136,7 @@ pub fn go_back<const REGS: usize>(
 fn return_from<const REGS: usize>(machine: &mut Machine<REGS>, pages: &Pages) -> LineOutcome
     requires { IsTrue (is_sound machine.old.ram.registers) }
     ensures done { ReturnsFrom pages.now (machine_of machine.old) (machine_of machine.new) result }
-    ensures keeps { Keeps machine.old machine.new }
-    ensures left { LeavesMark machine.old.ram machine.new.ram }
+    ensures keeps { KeepsRest machine.old machine.new }
 {
     match machine.focal.returns.pop() {
         Some(position) => {

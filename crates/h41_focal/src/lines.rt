@@ -3,18 +3,16 @@
 ghost use Rattle.std.specs.Prelude.{◌≡◌, ℕ, Ok, OnErr, IsTrue};
 ghost use Rattle.h41_codes.specs.declared.line.Line.TheVariants.{BranchIndirect, Named};
 ghost use Rattle.h41_focal.specs.LabelSearches.{search_for};
-ghost use Rattle.h41_positions.specs.LabelledMachine.{Keeps, machine_of};
+ghost use Rattle.h41_positions.specs.LabelledMachine.{machine_of};
 ghost use Rattle.h41_focal.specs.LineStep.{Stands};
 ghost use Rattle.h41_focal.specs.private.Carrying.{GoesToTarget};
 ghost use Rattle.h41_focal.specs.private.Carrying.{CarriesAs};
 ghost use Rattle.h41_focal.specs.private.Carrying.{TakesBranch, TakesNamed, TakesShort};
-ghost use Rattle.h41_focal.specs.private.Searching.{AsksFrom, AsksOf};
+ghost use Rattle.h41_focal.specs.private.Searching.{AsksFrom, AsksOf, KeepsRest};
 ghost use Rattle.h41_labels.specs.KeptAnswers.{IsRight};
 ghost use Rattle.h41_pages.specs.PageMap.{PageMap};
-ghost use Rattle.h41_ram.specs.RamState.{KeepsMark};
 ghost use Rattle.h41_rows.specs.Computing.{meant_by};
 ghost use Rattle.h41_ram.specs.RegisterMap.{is_sound};
-ghost use Rattle.h41_rows.specs.RowMarks.{LeavesMark};
 
 use crate::alpha_lines::text_line;
 use crate::calls::call_module;
@@ -69,8 +67,6 @@ pub fn carry_out<const REGS: usize>(
         (machine_of machine.new) result }
     ensures unchanged { OnErr result (machine_of machine.new ≡ machine_of machine.old) }
     ensures kept { AsksOf origin line.now machine.old machine.new }
-    ensures mark { KeepsMark machine.old.ram machine.new.ram }
-    ensures left { LeavesMark machine.old.ram machine.new.ram }
 {
     match line {
         Line::Null => Ok(do_nothing(machine, origin)),
@@ -121,8 +117,6 @@ fn named<const REGS: usize>(
         (machine_of machine.new) result }
     ensures unchanged { OnErr result (machine_of machine.new ≡ machine_of machine.old) }
     ensures kept { AsksOf origin (Named function name) machine.old machine.new }
-    ensures mark { KeepsMark machine.old.ram machine.new.ram }
-    ensures left { LeavesMark machine.old.ram machine.new.ram }
 {
     match function {
         NameFunction::GoToName => to_name(machine, pages, origin, Branch::GoTo, name),
@@ -143,8 +137,7 @@ pub fn short<const REGS: usize>(
     ensures taken { (pages : PageMap) → TakesShort pages origin function register
         (machine_of machine.old) (machine_of machine.new) result }
     ensures unchanged { OnErr result (machine.new ≡ machine.old) }
-    ensures keeps { Keeps machine.old machine.new }
-    ensures left { LeavesMark machine.old.ram machine.new.ram }
+    ensures keeps { KeepsRest machine.old machine.new }
 {
     match (
         data_address(&machine.ram, u16::from(register.number())),
@@ -173,8 +166,6 @@ pub fn indirect<const REGS: usize>(
         (machine_of machine.new) result }
     ensures unchanged { OnErr result (machine_of machine.new ≡ machine_of machine.old) }
     ensures kept { AsksOf origin (BranchIndirect branch register) machine.old machine.new }
-    ensures mark { KeepsMark machine.old.ram machine.new.ram }
-    ensures left { LeavesMark machine.old.ram machine.new.ram }
 {
     if is_parameter_out(register) {
         return Err(FocalRefusal::NotInProfile);
@@ -201,8 +192,6 @@ fn to_target<const REGS: usize>(
     ensures unchanged { OnErr result (machine_of machine.new ≡ machine_of machine.old) }
     ensures kept { AsksFrom origin (λ from. search_for from (Ok (meant_by target)))
         machine.old machine.new }
-    ensures mark { KeepsMark machine.old.ram machine.new.ram }
-    ensures left { LeavesMark machine.old.ram machine.new.ram }
 {
     match target {
         BranchTarget::Label(label) => Ok(to_label(machine, pages, origin, branch, label)),

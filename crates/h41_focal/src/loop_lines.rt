@@ -1,11 +1,11 @@
 //! Program lines that count in a register (`ISG` and `DSE`), and skip the next line when their loop ends.
 
 ghost use Rattle.std.specs.Prelude.{IsTrue, ◌≡◌, OnErr};
-ghost use Rattle.h41_positions.specs.LabelledMachine.{Keeps, machine_of};
+ghost use Rattle.h41_positions.specs.LabelledMachine.{machine_of};
 ghost use Rattle.h41_focal.specs.private.Carrying.{DoesUse};
 ghost use Rattle.h41_focal.specs.declared.uses.RegisterUse.TheVariants.{CountDown, CountUp};
+ghost use Rattle.h41_focal.specs.private.Searching.{KeepsApart};
 ghost use Rattle.h41_ram.specs.RegisterMap.{is_sound};
-ghost use Rattle.h41_rows.specs.RowMarks.{IsApart, LeavesMark};
 
 use crate::course::{fail, go_on_lifting};
 use crate::machine::Machine;
@@ -29,9 +29,7 @@ pub fn count_up<const REGS: usize>(
     ensures carried { DoesUse pages.now origin CountUp address (machine_of machine.old)
         (machine_of machine.new) result }
     ensures unchanged { OnErr result (machine.new ≡ machine.old) }
-    ensures keeps { Keeps machine.old machine.new }
-    ensures left { IsApart machine.old.ram.registers address
-        → LeavesMark machine.old.ram machine.new.ram }
+    ensures keeps { KeepsApart address machine.old machine.new }
 {
     match loop_up(&machine.ram, address) {
         Ok(counted) => {
@@ -57,9 +55,7 @@ pub fn count_down<const REGS: usize>(
     ensures carried { DoesUse pages.now origin CountDown address (machine_of machine.old)
         (machine_of machine.new) result }
     ensures unchanged { OnErr result (machine.new ≡ machine.old) }
-    ensures keeps { Keeps machine.old machine.new }
-    ensures left { IsApart machine.old.ram.registers address
-        → LeavesMark machine.old.ram machine.new.ram }
+    ensures keeps { KeepsApart address machine.old machine.new }
 {
     match loop_down(&machine.ram, address) {
         Ok(counted) => {

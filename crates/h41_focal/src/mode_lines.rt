@@ -1,10 +1,10 @@
 //! Program lines that select the unit of angles or the display format.
 
 ghost use Rattle.std.specs.Prelude.{◌<◌, ℕ};
-ghost use Rattle.h41_positions.specs.LabelledMachine.{Keeps, machine_of};
+ghost use Rattle.h41_positions.specs.LabelledMachine.{machine_of};
 ghost use Rattle.h41_focal.specs.private.Carrying.{DoesWork, LeavesDigits};
 ghost use Rattle.h41_focal.specs.declared.works.FunctionWork.TheVariants.{Angles};
-ghost use Rattle.h41_rows.specs.RowMarks.{LeavesMark};
+ghost use Rattle.h41_focal.specs.private.Searching.{KeepsRest};
 
 use crate::course::go_on_lifting;
 use crate::machine::Machine;
@@ -23,8 +23,7 @@ pub fn set_angle_unit<const REGS: usize>(
 ) -> LineOutcome
     ensures done { DoesWork origin (Angles grads radians) (machine_of machine.old)
         (machine_of machine.new) result }
-    ensures keeps { Keeps machine.old machine.new }
-    ensures left { LeavesMark machine.old.ram machine.new.ram }
+    ensures keeps { KeepsRest machine.old machine.new }
 {
     set_angles(&mut machine.ram, grads, radians);
     go_on_lifting(&mut machine.focal, origin);
@@ -42,8 +41,7 @@ pub fn use_digits<const REGS: usize>(
     requires { digits < 10 }
     ensures done { LeavesDigits origin taken digits (machine_of machine.old)
         (machine_of machine.new) result }
-    ensures keeps { Keeps machine.old machine.new }
-    ensures left { LeavesMark machine.old.ram machine.new.ram }
+    ensures keeps { KeepsRest machine.old machine.new }
 {
     match taken {
         DigitsUse::Format(fixed, engineering) => {

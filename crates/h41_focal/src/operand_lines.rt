@@ -1,14 +1,14 @@
 //! Executing functions with an operand, for example `RCL 05` or `FIX IND 02`.
 
 ghost use Rattle.std.specs.Prelude.{◌≡◌, false, OnErr, IsTrue};
-ghost use Rattle.h41_positions.specs.LabelledMachine.{Keeps, machine_of};
+ghost use Rattle.h41_positions.specs.LabelledMachine.{machine_of};
 ghost use Rattle.h41_focal.specs.private.Carrying.{TakenBy, UsesDigits, UsesFlag};
 ghost use Rattle.h41_focal.specs.private.Carrying.{UsesAddress};
+ghost use Rattle.h41_focal.specs.private.Searching.{KeepsRest};
 ghost use Rattle.h41_pages.specs.PageMap.{PageMap};
 ghost use Rattle.h41_rows.specs.Profile.{is_operand_left_out, is_parameter_left_out};
 ghost use Rattle.h41_rows.specs.Profile.{is_use_left_out};
 ghost use Rattle.h41_ram.specs.RegisterMap.{is_sound};
-ghost use Rattle.h41_rows.specs.RowMarks.{LeavesMark};
 
 use crate::course::fail;
 use crate::flag_lines::use_flag;
@@ -39,8 +39,7 @@ pub fn with_operand<const REGS: usize>(
     ensures taken { TakenBy pages.now origin function operand.now (machine_of machine.old)
         (machine_of machine.new) result }
     ensures unchanged { OnErr result (machine.new ≡ machine.old) }
-    ensures keeps { Keeps machine.old machine.new }
-    ensures left { LeavesMark machine.old.ram machine.new.ram }
+    ensures keeps { KeepsRest machine.old machine.new }
 {
     if is_left_out(function, operand) {
         return Err(FocalRefusal::NotInProfile);
@@ -94,8 +93,7 @@ fn with_register<const REGS: usize>(
     ensures used { UsesAddress pages.now origin taken operand.now (machine_of machine.old)
         (machine_of machine.new) result }
     ensures unchanged { OnErr result (machine.new ≡ machine.old) }
-    ensures keeps { Keeps machine.old machine.new }
-    ensures left { LeavesMark machine.old.ram machine.new.ram }
+    ensures keeps { KeepsRest machine.old machine.new }
 {
     match register_of(&machine.ram, operand) {
         Ok(address) => use_register(machine, pages, origin, taken, address),
@@ -115,8 +113,7 @@ fn with_digits<const REGS: usize>(
     ensures used { (pages : PageMap) → UsesDigits pages origin taken operand.now
         (machine_of machine.old) (machine_of machine.new) result }
     ensures unchanged { OnErr result (machine.new ≡ machine.old) }
-    ensures keeps { Keeps machine.old machine.new }
-    ensures left { LeavesMark machine.old.ram machine.new.ram }
+    ensures keeps { KeepsRest machine.old machine.new }
 {
     match digit_of(&machine.ram, operand) {
         Ok(digits) => Ok(use_digits(machine, origin, taken, digits)),
@@ -139,8 +136,7 @@ fn with_flag<const REGS: usize>(
     ensures used { UsesFlag pages.now origin taken operand.now (machine_of machine.old)
         (machine_of machine.new) result }
     ensures unchanged { OnErr result (machine.new ≡ machine.old) }
-    ensures keeps { Keeps machine.old machine.new }
-    ensures left { LeavesMark machine.old.ram machine.new.ram }
+    ensures keeps { KeepsRest machine.old machine.new }
 {
     match flag_of(&machine.ram, operand, taken.highest()) {
         Ok(flag) => use_flag(machine, pages, origin, taken, flag),

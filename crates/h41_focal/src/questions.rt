@@ -1,11 +1,11 @@
 //! Tests of X, which skip the next line if they are false.
 
 ghost use Rattle.std.specs.Prelude.{◌≡◌, ℕ, IsTrue, OnErr};
-ghost use Rattle.h41_positions.specs.LabelledMachine.{Keeps, machine_of};
+ghost use Rattle.h41_positions.specs.LabelledMachine.{machine_of};
 ghost use Rattle.h41_focal.specs.private.Carrying.{CarriesWork, Leads, test_answer};
 ghost use Rattle.h41_focal.specs.declared.works.FunctionWork.TheVariants.{Ask};
+ghost use Rattle.h41_focal.specs.private.Searching.{KeepsRest};
 ghost use Rattle.h41_ram.specs.RegisterMap.{is_sound};
-ghost use Rattle.h41_rows.specs.RowMarks.{LeavesMark};
 
 use crate::course::{fail, go_on_lifting};
 use crate::machine::Machine;
@@ -63,8 +63,7 @@ pub fn ask<const REGS: usize>(
     ensures carried { CarriesWork pages.now origin (Ask test) (machine_of machine.old)
         (machine_of machine.new) result }
     ensures unchanged { OnErr result (machine.new ≡ machine.old) }
-    ensures keeps { Keeps machine.old machine.new }
-    ensures left { LeavesMark machine.old.ram machine.new.ram }
+    ensures keeps { KeepsRest machine.old machine.new }
 {
     match asks(&machine.ram, test) {
         Ok(holds) => {

@@ -1,11 +1,11 @@
 //! Program lines with a register, for example `RCL` and `STO`.
 
-ghost use Rattle.h41_positions.specs.LabelledMachine.{Keeps, machine_of};
+ghost use Rattle.h41_positions.specs.LabelledMachine.{machine_of};
 ghost use Rattle.h41_focal.specs.private.Carrying.{UsesAt};
 ghost use Rattle.h41_focal.specs.declared.uses.RegisterUse.TheVariants.{Combine, Exchange, Recall};
 ghost use Rattle.h41_focal.specs.declared.uses.RegisterUse.TheVariants.{RecallAlpha, Store};
 ghost use Rattle.h41_focal.specs.declared.uses.RegisterUse.TheVariants.{StoreAlpha, View};
-ghost use Rattle.h41_rows.specs.RowMarks.{IsApart, LeavesMark};
+ghost use Rattle.h41_focal.specs.private.Searching.{KeepsApart, KeepsRest};
 
 use crate::addresses::X;
 use crate::course::{fail, go_on_lifting};
@@ -26,8 +26,7 @@ pub fn recall<const REGS: usize>(
 ) -> LineOutcome
     ensures done { UsesAt origin Recall address (machine_of machine.old)
         (machine_of machine.new) result }
-    ensures keeps { Keeps machine.old machine.new }
-    ensures left { LeavesMark machine.old.ram machine.new.ram }
+    ensures keeps { KeepsRest machine.old machine.new }
 {
     bring_in_from(&mut machine.ram, address, machine.focal.lift);
     go_on_lifting(&mut machine.focal, origin);
@@ -43,9 +42,7 @@ pub fn store<const REGS: usize>(
 ) -> LineOutcome
     ensures done { UsesAt origin Store address (machine_of machine.old)
         (machine_of machine.new) result }
-    ensures keeps { Keeps machine.old machine.new }
-    ensures left { IsApart machine.old.ram.registers address
-        → LeavesMark machine.old.ram machine.new.ram }
+    ensures keeps { KeepsApart address machine.old machine.new }
 {
     store_x(&mut machine.ram, address);
     go_on_lifting(&mut machine.focal, origin);
@@ -64,9 +61,7 @@ pub fn combine<const REGS: usize>(
 ) -> LineOutcome
     ensures done { UsesAt origin (Combine value) address (machine_of machine.old)
         (machine_of machine.new) result }
-    ensures keeps { Keeps machine.old machine.new }
-    ensures left { IsApart machine.old.ram.registers address
-        → LeavesMark machine.old.ram machine.new.ram }
+    ensures keeps { KeepsApart address machine.old machine.new }
 {
     match compute_of_two(&machine.ram, value, address, X) {
         Ok(register) => {
@@ -86,8 +81,7 @@ pub fn view<const REGS: usize>(
 ) -> LineOutcome
     ensures done { UsesAt origin View address (machine_of machine.old)
         (machine_of machine.new) result }
-    ensures keeps { Keeps machine.old machine.new }
-    ensures left { LeavesMark machine.old.ram machine.new.ram }
+    ensures keeps { KeepsRest machine.old machine.new }
 {
     go_on_lifting(&mut machine.focal, origin);
     LineOutcome::ViewedRegister(address)
@@ -102,9 +96,7 @@ pub fn store_alpha<const REGS: usize>(
 ) -> LineOutcome
     ensures done { UsesAt origin StoreAlpha address (machine_of machine.old)
         (machine_of machine.new) result }
-    ensures keeps { Keeps machine.old machine.new }
-    ensures left { IsApart machine.old.ram.registers address
-        → LeavesMark machine.old.ram machine.new.ram }
+    ensures keeps { KeepsApart address machine.old machine.new }
 {
     let characters = first_six(&machine.ram);
     machine.ram.write(address, characters);
@@ -120,8 +112,7 @@ pub fn recall_alpha<const REGS: usize>(
 ) -> LineOutcome
     ensures done { UsesAt origin RecallAlpha address (machine_of machine.old)
         (machine_of machine.new) result }
-    ensures keeps { Keeps machine.old machine.new }
-    ensures left { LeavesMark machine.old.ram machine.new.ram }
+    ensures keeps { KeepsRest machine.old machine.new }
 {
     append_register(&mut machine.ram, address);
     go_on_lifting(&mut machine.focal, origin);
@@ -136,9 +127,7 @@ pub fn exchange_x<const REGS: usize>(
 ) -> LineOutcome
     ensures done { UsesAt origin Exchange address (machine_of machine.old)
         (machine_of machine.new) result }
-    ensures keeps { Keeps machine.old machine.new }
-    ensures left { IsApart machine.old.ram.registers address
-        → LeavesMark machine.old.ram machine.new.ram }
+    ensures keeps { KeepsApart address machine.old machine.new }
 {
     exchange(&mut machine.ram, address);
     go_on_lifting(&mut machine.focal, origin);

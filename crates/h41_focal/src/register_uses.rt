@@ -1,10 +1,10 @@
 //! Executing a function with a register, after the address of the register is known.
 
 ghost use Rattle.std.specs.Prelude.{IsTrue, ◌≡◌, OnErr};
-ghost use Rattle.h41_positions.specs.LabelledMachine.{Keeps, machine_of};
+ghost use Rattle.h41_positions.specs.LabelledMachine.{machine_of};
 ghost use Rattle.h41_focal.specs.private.Carrying.{DoesUse};
+ghost use Rattle.h41_focal.specs.private.Searching.{KeepsApart};
 ghost use Rattle.h41_ram.specs.RegisterMap.{is_sound};
-ghost use Rattle.h41_rows.specs.RowMarks.{IsApart, LeavesMark};
 
 use crate::loop_lines::{count_down, count_up};
 use crate::machine::Machine;
@@ -29,9 +29,7 @@ pub fn use_register<const REGS: usize>(
     ensures carried { DoesUse pages.now origin taken address (machine_of machine.old)
         (machine_of machine.new) result }
     ensures unchanged { OnErr result (machine.new ≡ machine.old) }
-    ensures keeps { Keeps machine.old machine.new }
-    ensures left { IsApart machine.old.ram.registers address
-        → LeavesMark machine.old.ram machine.new.ram }
+    ensures keeps { KeepsApart address machine.old machine.new }
 {
     match taken {
         RegisterUse::Recall => Ok(recall(machine, origin, address)),

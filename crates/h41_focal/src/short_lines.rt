@@ -9,9 +9,7 @@ ghost use Rattle.h41_focal.specs.private.Carrying.{CarriesAs};
 ghost use Rattle.h41_focal.specs.private.Searching.{AsksOf};
 ghost use Rattle.h41_labels.specs.KeptAnswers.{IsRight};
 ghost use Rattle.h41_pages.specs.PageMap.{PageMap};
-ghost use Rattle.h41_ram.specs.RamState.{KeepsMark};
 ghost use Rattle.h41_ram.specs.RegisterMap.{is_sound};
-ghost use Rattle.h41_rows.specs.RowMarks.{LeavesMark};
 
 use crate::calls::call_module;
 use crate::functions::plain_at_once;
@@ -88,8 +86,6 @@ pub fn carry_short<const REGS: usize>(
         (machine_of machine.new) result }
     ensures unchanged { OnErr result (machine_of machine.new ≡ machine_of machine.old) }
     ensures kept { AsksOf origin (line_of line) machine.old machine.new }
-    ensures mark { KeepsMark machine.old.ram machine.new.ram }
-    ensures left { LeavesMark machine.old.ram machine.new.ram }
 {
     match line {
         ShortLine::LocalLabel(_) => Ok(be_silent(machine, origin)),

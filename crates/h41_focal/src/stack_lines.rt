@@ -3,7 +3,7 @@
 ghost use Rattle.std.specs.Prelude.{◌≡◌, ℕ, List};
 ghost use Rattle.h41_codes.specs.declared.characters.Character.{Character};
 ghost use Rattle.h41_codes.specs.declared.line.Line.TheVariants as lines;
-ghost use Rattle.h41_positions.specs.LabelledMachine.{Keeps, machine_of};
+ghost use Rattle.h41_positions.specs.LabelledMachine.{machine_of};
 ghost use Rattle.h41_focal.specs.private.Carrying.{DoesLine, DoesWork, LeavesRow};
 ghost use Rattle.h41_focal.specs.private.Carrying.{on_to_next};
 ghost use Rattle.h41_rows.specs.Computing.{IsAlways};
@@ -12,6 +12,7 @@ ghost use Rattle.h41_rows.specs.Values.{Written};
 ghost use Rattle.h41_focal.specs.private.StackMoves.{Moves};
 ghost use Rattle.h41_focal.specs.private.Works.{move_row};
 ghost use Rattle.h41_focal.specs.declared.works.FunctionWork.TheVariants.{ClearRegisters, Move};
+ghost use Rattle.h41_focal.specs.private.Searching.{KeepsRest};
 ghost use Rattle.h41_ram.specs.RamState.{KeepsMark};
 ghost use Rattle.h41_rows.specs.RowMarks.{LeavesMark};
 
@@ -38,8 +39,7 @@ pub fn move_stack<const REGS: usize>(
 ) -> LineOutcome
     ensures done { DoesWork origin (Move movement) (machine_of machine.old)
         (machine_of machine.new) result }
-    ensures keeps { Keeps machine.old machine.new }
-    ensures left { LeavesMark machine.old.ram machine.new.ram }
+    ensures keeps { KeepsRest machine.old machine.new }
 {
     move_registers(&mut machine.ram, movement, machine.focal.lift);
     go_on_after_movement(&mut machine.focal, origin, movement);
@@ -98,8 +98,7 @@ pub fn number_line<const REGS: usize>(
     ensures done { (text : List Character) → IsAlways (Written text) number
         → DoesLine origin (lines.Number text) (machine_of machine.old)
         (machine_of machine.new) result }
-    ensures keeps { Keeps machine.old machine.new }
-    ensures left { LeavesMark machine.old.ram machine.new.ram }
+    ensures keeps { KeepsRest machine.old machine.new }
 {
     bring_in(&mut machine.ram, number, machine.focal.lift);
     go_on_lifting(&mut machine.focal, origin);
@@ -113,8 +112,7 @@ pub fn clear_registers<const REGS: usize>(
 ) -> LineOutcome
     ensures done { DoesWork origin ClearRegisters (machine_of machine.old)
         (machine_of machine.new) result }
-    ensures keeps { Keeps machine.old machine.new }
-    ensures left { LeavesMark machine.old.ram machine.new.ram }
+    ensures keeps { KeepsRest machine.old machine.new }
 {
     clear_data(&mut machine.ram);
     go_on_lifting(&mut machine.focal, origin);
@@ -126,8 +124,7 @@ pub fn clear_registers<const REGS: usize>(
 pub fn do_nothing<const REGS: usize>(machine: &mut Machine<REGS>, origin: Origin) -> LineOutcome
     ensures done { LeavesRow origin lifting_row (machine_of machine.old)
         (machine_of machine.new) result }
-    ensures keeps { Keeps machine.old machine.new }
-    ensures left { LeavesMark machine.old.ram machine.new.ram }
+    ensures keeps { KeepsRest machine.old machine.new }
 {
     go_on_lifting(&mut machine.focal, origin);
     LineOutcome::Done
@@ -139,8 +136,7 @@ pub fn do_nothing<const REGS: usize>(machine: &mut Machine<REGS>, origin: Origin
 pub fn be_silent<const REGS: usize>(machine: &mut Machine<REGS>, origin: Origin) -> LineOutcome
     ensures done { LeavesRow origin silent_row (machine_of machine.old)
         (machine_of machine.new) result }
-    ensures keeps { Keeps machine.old machine.new }
-    ensures left { LeavesMark machine.old.ram machine.new.ram }
+    ensures keeps { KeepsRest machine.old machine.new }
 {
     go_on(&mut machine.focal, origin);
     LineOutcome::Done

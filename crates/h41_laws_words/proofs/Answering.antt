@@ -21,12 +21,17 @@ use Rattle.h41_decimal.proofs.Nearest.{ten_pow_pos}
 use Rattle.h41_decimal.proofs.Signed.{not_zero, nearest_of}
 use Rattle.h41_decimal.proofs.Tens.{size_pos}
 use Rattle.h41_decimal.proofs.Floors.{rest_of_same, rest_of_apart, rest_of_apart_none, rest_of_zero, modulo_by}
+use Rattle.h41_laws_words.specs.HasOne.{HasOne}
 use Rattle.h41_laws_words.proofs.Rounding.{fraction_rounded, root_rounded, ten_of, units-ten_of}
 
 -- There is an answer.
 pub record Has {A : Type 0} (IsRight : A → Type 0) : Type 0 where
   pub answer : A
   pub right : IsRight answer
+
+-- An answer that all right answers are equal to is the only one.
+pub has_one : {A : Type 0} {IsRight : A → Type 0} → Has IsRight → ((x y : A) → IsRight x → IsRight y → x ≡ y) → HasOne IsRight
+has_one found same = record { answer = found.answer; right = found.right; only = λ other right. same other found.answer right found.right }
 
 pub nearest : (above : ℤ) (below : ℕ) → 0 < below → Has (Nearest above below)
 nearest (pos zero) below some = record { answer = Ok Zero; right = refl }
@@ -64,8 +69,7 @@ rest_same s Y X some =
     let found = nearest (with_sign s (Y % X)) 1 (omega arith) in
     record {
       answer = found.answer;
-      right =
-          rest_of_same s Y X (Y / X) (Y % X) found.answer (sym (div-add-mod' Y X)) (mod_below Y X some) found.right;
+      right = rest_of_same s Y X (Y / X) (Y % X) found.answer (sym (div-add-mod' Y X)) (mod_below Y X some) found.right;
     }
 
 rest_apart : (s : Sign) (Y X r : ℕ) → r ≡ Y % X → 0 < X → 0 < Y → Has (RoundsRest (with_sign (opposite_of s) Y) (with_sign s X))
@@ -109,10 +113,7 @@ of_steps step number some =
     let k = (2 * n + step) / (2 * step) in
     let bounds = half_up step n k (div-mul-le_self (2 * n + step) (2 * step)) (lt-div-mul-add twice) in
     let found = nearest (with_sign (sign_of number) (k * step)) 1 (omega arith) in
-    record {
-      answer = found.answer;
-      right = record { steps = k; not_above = bounds.0; next_above = bounds.1; value = found.right };
-    }
+    record { answer = found.answer; right = record { steps = k; not_above = bounds.0; next_above = bounds.1; value = found.right } }
 
 -- The parts of a number.
 next_one : (n k : ℕ) → n < k * one + one → n < (k + 1) * one

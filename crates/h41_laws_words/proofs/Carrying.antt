@@ -1,9 +1,9 @@
 -- The digits and carries of the digit rule, found from the lowest place up.
-use Rattle.std.proofs.Common.{◌≡◌, ◌≢◌, ℕ, zero, suc, ◌+◌, ◌-◌, ◌%◌, ◌<◌, ◌≤◌, Bool, true, false, List, slice_index, refl, ap, ◌∙◌}
+use Rattle.std.proofs.Common.{◌≡◌, ◌≢◌, ℕ, zero, suc, ◌+◌, ◌-◌, ◌%◌, ◌<◌, ◌≤◌, Bool, true, false, List, slice_index, refl, ap₂, ◌∙◌}
 use Rattle.std.proofs.Common.{subst, arith}
 use Rattle.std.proofs.Common.{inl, inr, set, length, get_or-set_other}
 use Rattle.std.proofs.Math.ListN.{length-set}
-use Rattle.std.proofs.lemmas.Bool.{cases_lt}
+use Rattle.std.proofs.lemmas.Bool.{cases_lt, cond_both}
 use Rattle.std.proofs.lemmas.List.Elements.{All-set}
 use Rattle.h41_digits.specs.Register.{IsRegister}
 use Rattle.h41_arith.specs.DigitRule.{SumDigit, DifferenceDigit, HasCarries, HasResult, base_of, carry_digit}
@@ -23,25 +23,13 @@ abbrev pub GivesDigits : (ℕ → ℕ → ℕ → ℕ → ℕ → Type 0) → Ty
 GivesDigits rule = (x y carry : ℕ) → x < 16 → HasDigit rule x y carry
 
 base_small : (decimal : Bool) → base_of decimal ≤ 16
-base_small true = omega arith
-base_small false = omega arith
+base_small decimal = cond_both decimal _ _ (λ base. base ≤ 16) (λ _. omega arith) (λ _. omega arith)
 
 sum_digit : (base : ℕ) → base ≤ 16 → GivesDigits (SumDigit base)
 sum_digit base small x y carry digit = elim (cases_lt (x + y + carry) base) [
-  | inl less ↦ record {
-    digit = x + y + carry;
-    out = 0;
-    small = omega arith;
-    bit = omega arith;
-    holds = inl (less, refl, refl);
-  }
-  | inr more ↦ record {
-    digit = (x + y + carry - base) % 16;
-    out = 1;
-    small = omega arith;
-    bit = omega arith;
-    holds = inr (more, refl, refl);
-  }
+  | inl less ↦ record { digit = x + y + carry; out = 0; small = omega arith; bit = omega arith; holds = inl (less, refl, refl) }
+  | inr more ↦
+      record { digit = (x + y + carry - base) % 16; out = 1; small = omega arith; bit = omega arith; holds = inr (more, refl, refl) }
 ]
 
 difference_digit : (base : ℕ) → GivesDigits (DifferenceDigit base)
@@ -53,13 +41,7 @@ difference_digit base x y borrow digit = elim (cases_lt x (y + borrow)) [
     bit = omega arith;
     holds = inr (less, refl, refl);
   }
-  | inr more ↦ record {
-    digit = x - (y + borrow);
-    out = 0;
-    small = omega arith;
-    bit = omega arith;
-    holds = inl (more, refl, refl);
-  }
+  | inr more ↦ record { digit = x - (y + borrow); out = 0; small = omega arith; bit = omega arith; holds = inl (more, refl, refl) }
 ]
 
 pub sum_gives : (decimal : Bool) → GivesDigits (SumDigit (base_of decimal))
@@ -119,8 +101,7 @@ so_many rule gives into x y carry_in lo zero valid x_valid bit inside =
     } in
     subst (λ next. SoFar rule into x y carry_in lo next) at none
 so_many rule gives into x y carry_in lo (suc count) valid x_valid bit inside =
-    let at : lo + count + 1 ≡ lo + suc count = omega arith in
-    subst (λ next. SoFar rule into x y carry_in lo next) at
+    let at : lo + count + 1 ≡ lo + suc count = omega arith in subst (λ next. SoFar rule into x y carry_in lo next) at
     (one_more rule gives into x y carry_in lo (lo + count) x_valid (omega arith) (omega arith)
     (so_many rule gives into x y carry_in lo count valid x_valid bit (omega arith)))
 
@@ -135,9 +116,6 @@ as_bit (suc carry) small = record { bit = true; is = omega arith }
 
 abbrev pair : List ℕ → Bool → List ℕ × Bool
 pair z carry = (z, carry)
-
-both : (z w : List ℕ × Bool) → (z.0 ≡ w.0) × (z.1 ≡ w.1) → z ≡ w
-both z w same = ap (λ (t : List ℕ). pair t z.1) same.0 ∙ ap (λ (t : Bool). pair w.0 t) same.1
 
 pub one_result : (rule : ℕ → ℕ → ℕ → ℕ → ℕ → Type 0) → GivesDigits rule → IsDetermined (HasCarries rule) → HasOneResult (HasCarries rule)
 one_result rule gives determined into x y carry_in lo hi valid x_valid y_valid ordered inside =
@@ -158,6 +136,6 @@ one_result rule gives determined into x y carry_in lo hi valid x_valid y_valid o
       answer = (all.z, out.bit);
       right = result;
       only = λ other holds.
-          both other (all.z, out.bit)
-          (determined into x y other.0 all.z carry_in other.1 out.bit lo hi ordered holds result);
+          let same = determined into x y other.0 all.z carry_in other.1 out.bit lo hi ordered holds result in
+          ap₂ pair same.0 same.1;
     }

@@ -1,15 +1,15 @@
 -- The directives of a source are read.
-use Rattle.std.proofs.Common.{◌≡◌, ℕ, ◌+◌, ◌*◌, ◌/◌, ◌%◌, ◌==◌, List, [], ◌∷◌, ◌++◌, length, Option, Some, if◌then◌else◌, refl, sym}
+use Rattle.std.proofs.Common.{◌≡◌, ℕ, ◌+◌, ◌*◌, ◌/◌, ◌%◌, ◌==◌, List, [], ◌∷◌, ◌++◌, length, Ok, Option, Some, if◌then◌else◌, sym}
 use Rattle.std.proofs.Common.{ap, subst, ◌∙◌, arith, append_assoc, length-append}
 use Rattle.std.specs.Prelude.{slice_index}
 use Rattle.std.proofs.lemmas.List.{get_or_at}
 use Rattle.h41_asm.specs.Placing.{Labels, LinesSpell, SpellsRead, entry_words}
 use Rattle.h41_asm.specs.SourceLines.{SourceLine}
-use Rattle.h41_asm.specs.Statements.{name_words}
+use Rattle.h41_asm.specs.Statements.{EntryAt, name_words, reading_of}
 use Rattle.h41_pages.specs.FunctionTables.{entry_offset, spelled_name, words_before}
 use Rattle.h41_pages.specs.KeystrokeCode.{code_from, label_name}
 use Rattle.h41_laws_words.specs.DirectivesRead.{NameIsRead, EntryIsRead, FocalIsRead, FunctionIsRead, SpellsBy, name_line, entry_line}
-use Rattle.h41_laws_words.specs.DirectivesRead.{focal_line, lines_length}
+use Rattle.h41_laws_words.specs.DirectivesRead.{IsEntryOf, focal_line, lines_length}
 use Rattle.h41_laws_words.proofs.SourcePlaces.{IsPlaced, placed, name_reading, entry_reading, focal_reading}
 use Rattle.h41_laws_words.proofs.NameTexts.{length-name_words, name_spelled}
 
@@ -49,59 +49,39 @@ entry_at front others fill first second entry size =
           (3 + 2 * entry) (omega (arith, size, length-append front (first ∷ []))),
     )
 
-offset_read : (bits address first second : ℕ) → (bits ≡ 0) → first ≡ bits + address % 0x1000 / 0x100 → second ≡ address % 0x100
+offset_read : (mark address first second : ℕ) → first ≡ 512 * mark + address % 0x1000 / 0x100 → second ≡ address % 0x100
     → first % 16 * 256 + second % 256 ≡ address % 0x1000
-offset_read bits address first second none e f = omega arith
+offset_read mark address first second e f = omega arith
 
-offset_read_focal : (bits address first second : ℕ) → (bits ≡ 0x200) → first ≡ bits + address % 0x1000 / 0x100 → second ≡ address % 0x100
-    → first % 16 * 256 + second % 256 ≡ address % 0x1000
-offset_read_focal bits address first second marked e f = omega arith
+kind_read : (mark address first : ℕ) → first ≡ 512 * mark + address % 0x1000 / 0x100 → first / 512 % 2 ≡ mark % 2
+kind_read mark address first e = omega arith
 
-kind_read : (address first : ℕ) → first ≡ 0 + address % 0x1000 / 0x100 → first / 512 % 2 ≡ 0
-kind_read address first e = omega arith
-
-kind_read_focal : (address first : ℕ) → first ≡ 0x200 + address % 0x1000 / 0x100 → first / 512 % 2 ≡ 1
-kind_read_focal address first e = omega arith
+-- The line of a table entry, of microcode or with the mark of a keystroke function.
+entry_line_is_read : (mark : ℕ) (labels : Labels) (source words fill name : List ℕ) (origin entry : ℕ) (line : SourceLine)
+    (before behind : List SourceLine) → reading_of line.code ≡ Ok (EntryAt (512 * mark) name) → lines_length before ≡ 2 + 2 * entry
+    → SpellsBy labels source origin words (before ++ line ∷ behind)
+    → (target : ℕ) × (labels name ≡ Some target) × IsEntryOf (words ++ fill) entry target (mark % 2 == 1)
+entry_line_is_read mark labels source words fill name origin entry line before behind reading count by =
+    let at = line_placed labels source words origin before line behind by in
+    let own = subst (λ read. SpellsRead labels (origin + length at.front) read at.own) reading at.spells.words in
+    let target = own.0 in
+    let parts : words ++ fill ≡ (at.front ++ (entry_words (512 * mark) target ++ at.others)) ++ fill =
+    ap (λ (all : List ℕ). all ++ fill) (at.parts ∙ ap (λ (mine : List ℕ). at.front ++ (mine ++ at.others)) own.2) in
+    let two = entry_at at.front at.others fill (512 * mark + target % 0x1000 / 0x100) (target % 0x100) entry (at.size ∙ count) in
+    let first : slice_index (words ++ fill) (2 + 2 * entry) ≡ 512 * mark + target % 0x1000 / 0x100 =
+    ap (λ (all : List ℕ). slice_index all (2 + 2 * entry)) parts ∙ two.0 in
+    let second : slice_index (words ++ fill) (3 + 2 * entry) ≡ target % 0x100 =
+    ap (λ (all : List ℕ). slice_index all (3 + 2 * entry)) parts ∙ two.1 in
+    let kind = ap (λ bit. bit == 1) (kind_read mark target _ first) in
+    (target, own.1, record { offset = offset_read mark target _ _ first second; kind = kind })
 
 pub entry_is_read : EntryIsRead
 entry_is_read labels source words fill name origin entry label before behind good count by =
-    let at = line_placed labels source words origin before (entry_line label name) behind by in
-    let own = subst (λ read. SpellsRead labels (origin + length at.front) read at.own) (entry_reading name good) at.spells.words in
-    let target = own.0 in
-    let parts : words ++ fill ≡ (at.front ++ (entry_words 0 target ++ at.others)) ++ fill =
-    ap (λ (all : List ℕ). all ++ fill) (at.parts ∙ ap (λ (mine : List ℕ). at.front ++ (mine ++ at.others)) own.2) in
-    let two = entry_at at.front at.others fill (0 + target % 0x1000 / 0x100) (target % 0x100) entry (at.size ∙ count) in
-    let first : slice_index (words ++ fill) (2 + 2 * entry) ≡ 0 + target % 0x1000 / 0x100 =
-    ap (λ (all : List ℕ). slice_index all (2 + 2 * entry)) parts ∙ two.0 in
-    let second : slice_index (words ++ fill) (3 + 2 * entry) ≡ target % 0x100 =
-    ap (λ (all : List ℕ). slice_index all (3 + 2 * entry)) parts ∙ two.1 in (
-      target,
-      own.1,
-      record {
-        offset = offset_read 0 target _ _ refl first second;
-        kind = ap (λ bit. bit == 1) (kind_read target (slice_index (words ++ fill) (2 + 2 * entry)) first);
-      },
-    )
+    entry_line_is_read 0 labels source words fill name origin entry (entry_line label name) before behind (entry_reading name good) count by
 
 pub focal_is_read : FocalIsRead
 focal_is_read labels source words fill name origin entry label before behind good count by =
-    let at = line_placed labels source words origin before (focal_line label name) behind by in
-    let own = subst (λ read. SpellsRead labels (origin + length at.front) read at.own) (focal_reading name good) at.spells.words in
-    let target = own.0 in
-    let parts : words ++ fill ≡ (at.front ++ (entry_words 0x200 target ++ at.others)) ++ fill =
-    ap (λ (all : List ℕ). all ++ fill) (at.parts ∙ ap (λ (mine : List ℕ). at.front ++ (mine ++ at.others)) own.2) in
-    let two = entry_at at.front at.others fill (0x200 + target % 0x1000 / 0x100) (target % 0x100) entry (at.size ∙ count) in
-    let first : slice_index (words ++ fill) (2 + 2 * entry) ≡ 0x200 + target % 0x1000 / 0x100 =
-    ap (λ (all : List ℕ). slice_index all (2 + 2 * entry)) parts ∙ two.0 in
-    let second : slice_index (words ++ fill) (3 + 2 * entry) ≡ target % 0x100 =
-    ap (λ (all : List ℕ). slice_index all (3 + 2 * entry)) parts ∙ two.1 in (
-      target,
-      own.1,
-      record {
-        offset = offset_read_focal 0x200 target _ _ refl first second;
-        kind = ap (λ bit. bit == 1) (kind_read_focal target (slice_index (words ++ fill) (2 + 2 * entry)) first);
-      },
-    )
+    entry_line_is_read 1 labels source words fill name origin entry (focal_line label name) before behind (focal_reading name good) count by
 
 -- Two addresses of the same label.
 same_target : (found : Option ℕ) (one other : ℕ) → found ≡ Some one → found ≡ Some other → one ≡ other

@@ -29,8 +29,7 @@ lines_of_listing (piece ∷ rest) each =
 
 no_labels : (some : List Piece) → AllByRecursion ReadsPiece some → labels_of (map source_line some) ≡ []
 no_labels [] each = refl
-no_labels (piece ∷ rest) each =
-    ap (λ label. cons_option label (labels_of (map source_line rest))) each.0.unlabelled ∙ no_labels rest each.1
+no_labels (piece ∷ rest) each = ap (λ label. cons_option label (labels_of (map source_line rest))) each.0.unlabelled ∙ no_labels rest each.1
 
 -- Whatever the addresses of the labels are, the lines spell the words of the instructions.
 line_spells : (labels : Labels) (address : ℕ) (piece : Piece) → ReadsPiece piece

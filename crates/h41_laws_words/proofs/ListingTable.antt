@@ -1,23 +1,18 @@
 -- The line of each word is read as that word: for a row of the list, and for a word that is no instruction.
-use Rattle.std.proofs.Common.{◌≡◌, ℕ, zero, suc, ◌+◌, ◌*◌, ◌<◌, ◌≤◌, ℤ, pos, negsuc, Bool, true, false, ◌==◌, List, [], ◌∷◌, ◌++◌, map}
-use Rattle.std.proofs.Common.{refl, subst, arith}
-use Rattle.std.specs.List.{AllByRecursion, flat_map, range_with_len, list_all}
-use Rattle.std.proofs.lemmas.Bool.{cond_both, and_parts}
+use Rattle.std.proofs.Common.{ℕ, zero, suc, ◌+◌, ◌*◌, ◌<◌, ◌≤◌, ℤ, pos, negsuc, ◌==◌, List, [], ◌∷◌, ◌++◌, map}
+use Rattle.std.proofs.Common.{drop, subst, arith}
+use Rattle.std.specs.Fmt.{digits}
+use Rattle.std.specs.List.{AllByRecursion, flat_map, range_with_len}
+use Rattle.std.proofs.lemmas.Bool.{cond_both}
 use Rattle.h41_words.specs.declared.rows.Row.{Row}
 use Rattle.h41_words.specs.declared.rows.Condition.{Condition}
 use Rattle.h41_words.specs.declared.rows.Condition.TheVariants.{NoCarry, Carry}
 use Rattle.h41_words.specs.declared.rows.Row.TheVariants as rows
-use Rattle.h41_fields.specs.declared.field.Pointer.TheVariants.{P, Q}
-use Rattle.h41_words.specs.declared.rows.Bank.TheVariants.{First, Second, Third, Fourth}
-use Rattle.h41_words.specs.declared.rows.RegisterTransfer.{RegisterTransfer}
-use Rattle.h41_words.specs.declared.rows.RegisterTransfer.TheVariants.{CToG}
-use Rattle.h41_words.specs.Listing.{fields, operations, single_rows, displacements, families, listed_rows}
+use Rattle.h41_words.specs.Listing.{fields, operations, displacements, families, listed_rows}
 use Rattle.h41_words.specs.Mnemonics.{row_text}
 use Rattle.h41_words.specs.WordTable.{number_of, with_numbers, row_in, row_of, word_table, WordOfRow}
 use Rattle.h41_asm.specs.Statements.{singles, takers}
-use Rattle.h41_laws_words.proofs.ListingRows.{reads_constant, reads_arithmetic, reads_forward, reads_backward, reads_clear_status}
-use Rattle.h41_laws_words.proofs.ListingRows.{reads_set_status, reads_test_status, reads_test_pointer, reads_set_pointer, reads_rotate}
-use Rattle.h41_laws_words.proofs.ListingRows.{reads_load_digit, reads_write, reads_read}
+use Rattle.h41_laws_words.proofs.ListingRows.{reads_constant, reads_arithmetic, reads_forward, reads_backward}
 use Rattle.h41_laws_words.proofs.ListingTexts.{Reads}
 
 -- The line of a row is read as the word of the row.
@@ -51,61 +46,6 @@ module _ {A : Type 0} (Holds : A → Type 0) where
     each_number f (first + 1) count (λ number low high. holds number (omega arith) (omega arith)),
   )
 
-  each_tested : (test : A → Bool) (xs : List A) → ((x : A) → test x ≡ true → Holds x) → list_all test xs ≡ true → AllByRecursion Holds xs
-  each_tested test [] holds passes = tt
-  each_tested test (x ∷ xs) holds passes =
-      let both = and_parts (test x) (list_all test xs) passes in
-      (holds x both.0, each_tested test xs holds both.1)
-
--- The single words.
-abbrev is_single : Row → Bool
-is_single (rows.Arithmetic operation field) = false
-is_single (rows.LongJump low_byte) = false
-is_single (rows.ShortJump condition displacement) = false
-is_single (rows.ClearStatus bit) = false
-is_single (rows.SetStatus bit) = false
-is_single (rows.TestStatus bit) = false
-is_single (rows.TestPointer place) = false
-is_single (rows.SetPointer place) = false
-is_single (rows.RotateRight digits) = false
-is_single (rows.LoadDigit digit) = false
-is_single (rows.Write register) = false
-is_single (rows.Read register) = false
-is_single (rows.Constant number) = false
-is_single row = true
-
-transfer : (which : RegisterTransfer) → ReadsRow (rows.Transfer which)
-unfolding singles takers number_of
-transfer CToG = record { plain = refl; unlabelled = refl; said = refl }
-transfer which = record { plain = refl; unlabelled = refl; said = refl }
-
-single : (row : Row) → is_single row ≡ true → ReadsRow row
-unfolding singles takers number_of
-single (rows.Arithmetic operation field) is = absurd (cc)
-single (rows.LongJump low_byte) is = absurd (cc)
-single (rows.ShortJump condition displacement) is = absurd (cc)
-single (rows.ClearStatus bit) is = absurd (cc)
-single (rows.SetStatus bit) is = absurd (cc)
-single (rows.TestStatus bit) is = absurd (cc)
-single (rows.TestPointer place) is = absurd (cc)
-single (rows.SetPointer place) is = absurd (cc)
-single (rows.RotateRight digits) is = absurd (cc)
-single (rows.LoadDigit digit) is = absurd (cc)
-single (rows.Write register) is = absurd (cc)
-single (rows.Read register) is = absurd (cc)
-single (rows.Constant number) is = absurd (cc)
-single (rows.Transfer which) is = transfer which
-single rows.LoadImmediate is = reads_constant 0x130 (omega arith)
-single (rows.EnableBank First) is = record { plain = refl; unlabelled = refl; said = refl }
-single (rows.EnableBank Second) is = record { plain = refl; unlabelled = refl; said = refl }
-single (rows.EnableBank Third) is = record { plain = refl; unlabelled = refl; said = refl }
-single (rows.EnableBank Fourth) is = record { plain = refl; unlabelled = refl; said = refl }
-single (rows.SelectPointer P) is = record { plain = refl; unlabelled = refl; said = refl }
-single (rows.SelectPointer Q) is = record { plain = refl; unlabelled = refl; said = refl }
-single (rows.ReturnIf NoCarry) is = record { plain = refl; unlabelled = refl; said = refl }
-single (rows.ReturnIf Carry) is = record { plain = refl; unlabelled = refl; said = refl }
-single row is = record { plain = refl; unlabelled = refl; said = refl }
-
 abbrev ReadsJump : Condition → ℤ → Type 0
 ReadsJump condition displacement = ReadsRow (rows.ShortJump condition displacement)
 
@@ -116,65 +56,27 @@ short_jumps condition =
     (each_number (ReadsJump condition) (λ words. pos words) 0 64 (λ words low high. reads_forward condition words (omega arith)))
     (each_number (ReadsJump condition) (λ words. negsuc words) 0 64 (λ words low high. reads_backward condition words (omega arith))))
 
-read : (register : ℕ) → 1 ≤ register → register < 16 → ReadsRow (rows.Read register)
-read zero low high = absurd (omega arith)
-read (suc before) low high =
-    let next : before + 1 ≡ suc before = omega arith in
-    subst (λ (n : ℕ). ReadsRow (rows.Read n)) next (reads_read before (omega arith))
-
 -- A jump whose second word is missing is CON.
 long_jump : (low_byte : ℕ) → low_byte < 256 → ReadsRow (rows.LongJump low_byte)
 unfolding number_of
 long_jump low_byte inside = reads_constant (low_byte * 4 + 1) (omega arith)
 
+-- The rows with a decimal number, and the single words.
+numbered : AllByRecursion (AllByRecursion ReadsRow) (drop 4 families)
+unfolding singles takers digits number_of
+numbered = assumption
+
 listed : AllByRecursion ReadsRow listed_rows
 unfolding listed_rows
-listed =
-    each_flat_map ReadsRow (λ family. family) families (
-      each_flat_map ReadsRow (λ operation. map (λ field. rows.Arithmetic operation field) fields) operations
-          (each_always _ operations (λ operation. each_map ReadsRow (λ field. rows.Arithmetic operation field)
-          fields (each_always _ fields (λ field. reads_arithmetic operation field)))),
-      (
-        each_number ReadsRow (λ n. rows.LongJump n) 0 256 (λ n low high. long_jump n (omega arith)),
-        (
-          short_jumps NoCarry,
-          (
-            short_jumps Carry,
-            (
-              each_number ReadsRow (λ n. rows.ClearStatus n) 0 14 (λ n low high. reads_clear_status n (omega arith)),
-              (
-                each_number ReadsRow (λ n. rows.SetStatus n) 0 14 (λ n low high. reads_set_status n (omega arith)),
-                (
-                  each_number ReadsRow (λ n. rows.TestStatus n) 0 14 (λ n low high. reads_test_status n (omega arith)),
-                  (
-                    each_number ReadsRow (λ n. rows.TestPointer n) 0 14 (λ n low high. reads_test_pointer n (omega arith)),
-                    (
-                      each_number ReadsRow (λ n. rows.SetPointer n) 0 14 (λ n low high. reads_set_pointer n (omega arith)),
-                      (
-                        each_number ReadsRow (λ n. rows.RotateRight n) 0 14 (λ n low high. reads_rotate n (omega arith)),
-                        (
-                          each_number ReadsRow (λ n. rows.LoadDigit n) 0 16 (λ n low high. reads_load_digit n (omega arith)),
-                          (
-                            each_number ReadsRow (λ n. rows.Write n) 0 16 (λ n low high. reads_write n (omega arith)),
-                            (
-                              each_number ReadsRow (λ n. rows.Read n) 1 15 (λ n low high. read n low (omega arith)),
-                              (
-                                each_tested ReadsRow is_single single_rows single refl,
-                                tt,
-                              ),
-                            ),
-                          ),
-                        ),
-                      ),
-                    ),
-                  ),
-                ),
-              ),
-            ),
-          ),
-        ),
-      ),
-    )
+listed = each_flat_map ReadsRow (λ family. family) families (
+  each_flat_map ReadsRow (λ operation. map (λ field. rows.Arithmetic operation field) fields) operations
+      (each_always _ operations (λ operation. each_map ReadsRow (λ field. rows.Arithmetic operation field)
+      fields (each_always _ fields (λ field. reads_arithmetic operation field)))),
+  (
+    each_number ReadsRow (λ n. rows.LongJump n) 0 256 (λ n low high. long_jump n (omega arith)),
+    (short_jumps NoCarry, (short_jumps Carry, numbered)),
+  ),
+)
 
 in_table : (some : List Row) (word : ℕ) → AllByRecursion ReadsRow some → ReadsRow (rows.Constant word)
     → ReadsRow (row_in (with_numbers some) word)

@@ -1,6 +1,6 @@
 -- The meaning of a line that is a mnemonic and an operand.
-use Rattle.std.proofs.Common.{◌≡◌, ℕ, ◌<◌, true, false, List, [], ◌∷◌, ◌++◌, length, Some, None, Ok, refl, ap, ◌∙◌}
-use Rattle.std.specs.Prelude.{codes, bytes_eq}
+use Rattle.std.proofs.Common.{◌≡◌, ℕ, ◌<◌, true, List, [], ◌∷◌, ◌++◌, length, Some, None, Ok, refl, ap, ◌∙◌}
+use Rattle.std.specs.Prelude.{codes}
 use Rattle.std.specs.List.{list_all}
 use Rattle.std.specs.Option.{ok_or}
 use Rattle.std.proofs.lemmas.Bool.{and_parts, and_from}
@@ -9,15 +9,13 @@ use Rattle.h41_words.specs.declared.operation.Operation.{Operation}
 use Rattle.h41_words.specs.declared.operation.Operation.TheVariants.{ClearA}
 use Rattle.h41_words.specs.declared.rows.Condition.{Condition}
 use Rattle.h41_words.specs.declared.rows.Condition.TheVariants.{NoCarry, Carry}
-use Rattle.h41_words.specs.declared.rows.Row.TheVariants.{ClearStatus, SetStatus, TestStatus, TestPointer, SetPointer, RotateRight}
-use Rattle.h41_words.specs.declared.rows.Row.TheVariants.{LoadDigit, Write, Read}
 use Rattle.h41_words.specs.declared.second_word.LongJumpKind.{LongJumpKind}
-use Rattle.h41_words.specs.declared.second_word.LongJumpKind.TheVariants.{Execute, Go}
+use Rattle.h41_words.specs.declared.second_word.LongJumpKind.TheVariants.{Execute}
 use Rattle.h41_words.specs.Mnemonics.{operation_text, long_jump_text, short_jump_text}
 use Rattle.h41_asm.specs.declared.fault.SourceFault.TheVariants.{BadOperand}
 use Rattle.h41_asm.specs.SourceLines.{line_of, words_of}
-use Rattle.h41_asm.specs.Statements.{Words, Taking, reading_of, not_single, single_or_not, single_among, singles, takers, takes_field}
-use Rattle.h41_asm.specs.Statements.{takes_number, takes_address, takes_displacement, takes_immediate, takes_constant}
+use Rattle.h41_asm.specs.Statements.{Words, Taking, reading_of, singles, takers, takes_field}
+use Rattle.h41_asm.specs.Statements.{takes_address, takes_displacement, takes_immediate, takes_constant}
 use Rattle.h41_laws_words.proofs.ListingLines.{is_plain}
 use Rattle.h41_laws_words.proofs.ListingWords.{is_solid, words_of-operand}
 
@@ -56,85 +54,25 @@ reads_operand name word own takes taken operand gives =
 
 pub constant_taken : (word : List ℕ) → IsTaken (codes "CON") takes_constant word
 unfolding singles takers
-constant_taken word = record { plain = refl; unlabelled = refl; said = refl }
+constant_taken word = assumption
 
 pub immediate_taken : (word : List ℕ) → IsTaken (codes "LDI") takes_immediate word
 unfolding singles takers
-immediate_taken word = record { plain = refl; unlabelled = refl; said = refl }
+immediate_taken word = assumption
 
 pub long_jump_taken : (condition : Condition) (kind : LongJumpKind) (word : List ℕ)
     → IsTaken (long_jump_text condition kind) (takes_address condition kind) word
 unfolding singles takers
-long_jump_taken NoCarry Execute word = record { plain = refl; unlabelled = refl; said = refl }
-long_jump_taken Carry Execute word = record { plain = refl; unlabelled = refl; said = refl }
-long_jump_taken NoCarry Go word = record { plain = refl; unlabelled = refl; said = refl }
-long_jump_taken Carry Go word = record { plain = refl; unlabelled = refl; said = refl }
+long_jump_taken NoCarry Execute word = assumption
+long_jump_taken Carry Execute word = assumption
+long_jump_taken condition kind word = assumption
 
 pub short_jump_taken : (condition : Condition) (word : List ℕ) → IsTaken (short_jump_text condition) (takes_displacement condition) word
 unfolding singles takers
-short_jump_taken NoCarry word = record { plain = refl; unlabelled = refl; said = refl }
-short_jump_taken Carry word = record { plain = refl; unlabelled = refl; said = refl }
+short_jump_taken NoCarry word = assumption
+short_jump_taken Carry word = assumption
 
 pub operation_taken : (operation : Operation) (word : List ℕ) → IsTaken (operation_text operation) (takes_field operation) word
 unfolding singles takers
-operation_taken ClearA word = record { plain = refl; unlabelled = refl; said = refl }
-operation_taken operation word = record { plain = refl; unlabelled = refl; said = refl }
-
-pub clear_status_taken : (word : List ℕ) → IsTaken (codes "CLRF") (takes_number 0 14 (λ n. ClearStatus n)) word
-unfolding singles takers
-clear_status_taken word = record { plain = refl; unlabelled = refl; said = refl }
-
-pub set_status_taken : (word : List ℕ) → IsTaken (codes "SETF") (takes_number 0 14 (λ n. SetStatus n)) word
-unfolding singles takers
-set_status_taken word = record { plain = refl; unlabelled = refl; said = refl }
-
-pub test_status_taken : (word : List ℕ) → IsTaken (codes "?FSET") (takes_number 0 14 (λ n. TestStatus n)) word
-unfolding singles takers
-test_status_taken word = record { plain = refl; unlabelled = refl; said = refl }
-
-pub test_pointer_taken : (word : List ℕ) → IsTaken (codes "?R=") (takes_number 0 14 (λ n. TestPointer n)) word
-unfolding singles takers
-test_pointer_taken word = record { plain = refl; unlabelled = refl; said = refl }
-
-pub set_pointer_taken : (word : List ℕ) → IsTaken (codes "R=") (takes_number 0 14 (λ n. SetPointer n)) word
-unfolding singles takers
-set_pointer_taken word = record { plain = refl; unlabelled = refl; said = refl }
-
-pub rotate_taken : (word : List ℕ) → IsTaken (codes "RCR") (takes_number 0 14 (λ n. RotateRight n)) word
-unfolding singles takers
-rotate_taken word = record { plain = refl; unlabelled = refl; said = refl }
-
-pub load_digit_taken : (word : List ℕ) → IsTaken (codes "LD@R") (takes_number 0 16 (λ n. LoadDigit n)) word
-unfolding singles takers
-load_digit_taken word = record { plain = refl; unlabelled = refl; said = refl }
-
--- WRIT DATA and READ DATA are mnemonics of their own.
-none_writes : (word : List ℕ) → bytes_eq word (codes "DATA") ≡ false → single_among singles (codes "WRIT" ∷ word ∷ []) ≡ None
-unfolding singles
-none_writes word no_data = rw no_data (refl {a = None})
-
-none_reads : (word : List ℕ) → bytes_eq word (codes "DATA") ≡ false → single_among singles (codes "READ" ∷ word ∷ []) ≡ None
-unfolding singles
-none_reads word no_data = rw no_data (refl {a = None})
-
-write_behind : (word : List ℕ) → not_single (codes "WRIT" ∷ word ∷ []) ≡ ok_or (takes_number 0 16 (λ n. Write n) word) BadOperand
-unfolding takers
-write_behind word = refl
-
-read_behind : (word : List ℕ) → not_single (codes "READ" ∷ word ∷ []) ≡ ok_or (takes_number 1 15 (λ n. Read n) word) BadOperand
-unfolding takers
-read_behind word = refl
-
-pub write_taken : (word : List ℕ) → bytes_eq word (codes "DATA") ≡ false → IsTaken (codes "WRIT") (takes_number 0 16 (λ n. Write n)) word
-write_taken word no_data = record {
-  plain = refl;
-  unlabelled = refl;
-  said = ap (λ row. single_or_not row (codes "WRIT" ∷ word ∷ [])) (none_writes word no_data) ∙ write_behind word;
-}
-
-pub read_taken : (word : List ℕ) → bytes_eq word (codes "DATA") ≡ false → IsTaken (codes "READ") (takes_number 1 15 (λ n. Read n)) word
-read_taken word no_data = record {
-  plain = refl;
-  unlabelled = refl;
-  said = ap (λ row. single_or_not row (codes "READ" ∷ word ∷ [])) (none_reads word no_data) ∙ read_behind word;
-}
+operation_taken ClearA word = assumption
+operation_taken operation word = assumption

@@ -1,11 +1,10 @@
 -- The words of a name, read backwards from the function that follows them.
-use Rattle.std.proofs.Common.{◌≡◌, ◌⊎◌, inl, inr, ℕ, zero, suc, ◌+◌, ◌-◌, ◌/◌, ◌%◌, ◌<◌, ◌≤◌, true, false, not, ◌&&◌, nat_lt, ◌==◌, List}
+use Rattle.std.proofs.Common.{◌≡◌, ℕ, zero, suc, ◌+◌, ◌-◌, ◌/◌, ◌%◌, ◌<◌, ◌≤◌, true, false, not, ◌&&◌, nat_lt, ◌==◌, List}
 use Rattle.std.proofs.Common.{[], ◌∷◌, ◌++◌, length, map, take, min, reverse, Some, refl, sym, ap, ◌∙◌, arith, length-append}
 use Rattle.std.specs.Prelude.{nat_le, slice_index}
 use Rattle.std.specs.List.{list_all}
 use Rattle.std.specs.Option.{option_map}
-use Rattle.std.proofs.lemmas.Bool.{and_parts, cases_lt, leb-true, ltb-true}
-use Rattle.std.proofs.lemmas.Bool.Decides.{nat_tests}
+use Rattle.std.proofs.lemmas.Bool.{and_parts, cond_both, leb-true, ltb-false, ltb-true}
 use Rattle.std.proofs.lemmas.List.{get_or-reverse, get_or-take, get_or_append_left, length-map, length-reverse, length-take, reverse-append}
 use Rattle.std.proofs.lemmas.List.FromFn.{fill_by_all}
 use Rattle.h41_asm.specs.Operands.{is_text, is_text_byte}
@@ -45,25 +44,14 @@ length-name_words text =
 -- One character of a name.
 character_read : (byte word : ℕ) → 32 ≤ byte → byte ≤ 95 → word % 64 ≡ byte % 64 → character word ≡ byte
 character_read byte word low high same =
-    by_size (cases_lt (word % 64) 0x20)
-  where
-    by_size : (word % 64 < 0x20) ⊎ (0x20 ≤ word % 64) → character word ≡ byte
-    by_size (inl small) =
-        let test : nat_lt (word % 64) 0x20 ≡ true = grind (arith, nat_tests) in rw test (omega (arith, low, high, same, small))
-    by_size (inr large) =
-        let test : nat_lt (word % 64) 0x20 ≡ false = grind (arith, nat_tests) in rw test (omega (arith, low, high, same, large))
+    cond_both (nat_lt (word % 64) 0x20) _ _ (λ n. n ≡ byte) (λ t. let small = ltb-true (word % 64) 0x20 t in omega arith)
+    (λ t. let large = ltb-false (word % 64) 0x20 t in omega arith)
 
 not_last : (byte : ℕ) → is_last (byte % 64) ≡ false
-not_last byte = ap (λ bit. bit == 1) (zero_bit byte)
-  where
-    zero_bit : (byte : ℕ) → byte % 64 / 128 % 2 ≡ 0
-    zero_bit byte = omega arith
+not_last byte = let none : byte % 64 / 128 % 2 ≡ 0 = omega arith in rw none refl
 
 marked_last : (byte : ℕ) → is_last (byte % 64 + 0x80) ≡ true
-marked_last byte = ap (λ bit. bit == 1) (one_bit byte)
-  where
-    one_bit : (byte : ℕ) → (byte % 64 + 128) / 128 % 2 ≡ 1
-    one_bit byte = omega arith
+marked_last byte = let one : (byte % 64 + 128) / 128 % 2 ≡ 1 = omega arith in rw one refl
 
 in_range : (byte : ℕ) → is_text_byte byte ≡ true → (32 ≤ byte) × (byte ≤ 95)
 in_range byte good =

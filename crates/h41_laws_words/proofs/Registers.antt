@@ -1,10 +1,10 @@
 -- Registers of the processor and of memory that have 14 digits.
-use Rattle.std.proofs.Common.{ℕ, ◌+◌, ◌-◌, ◌<◌, Bool, true, false, List, [], ◌∷◌, map, length}
+use Rattle.std.proofs.Common.{ℕ, ◌+◌, ◌-◌, ◌<◌, List, [], ◌∷◌, map, length}
 use Rattle.std.proofs.Common.{slice_index, slice_index_or, slice_set, if◌then◌else◌, inl, inr, refl, sym, subst, ◌∙◌, arith}
 use Rattle.std.specs.Prelude.{◌&&◌, ◌==◌, nat_le, nat_lt, All}
 use Rattle.std.specs.List.{AllByRecursion, range_with_len}
 use Rattle.std.proofs.Math.ListN.{length-set}
-use Rattle.std.proofs.lemmas.Bool.{cases_lt}
+use Rattle.std.proofs.lemmas.Bool.{cases_lt, cond_both}
 use Rattle.std.proofs.lemmas.List.{get_or_past}
 use Rattle.std.proofs.lemmas.List.Elements.{All-map, All-replicate, All-set}
 use Rattle.std.proofs.lemmas.List.FromFn.{length-map-range_with_len}
@@ -48,17 +48,12 @@ placed digit small = record {
   each = All-map (λ digit. digit < 16) digit (range_with_len 0 14) (λ k d within. small _);
 }
 
-small_if : (t : Bool) (x y : ℕ) → x < 16 → y < 16 → (if t then x else y) < 16
-small_if true x y first second = first
-small_if false x y first second = second
-
 places_register : (into : List ℕ) (lo hi : ℕ) (digit : ℕ → ℕ) → IsRegister 14 into → ((place : ℕ) → digit place < 16)
     → IsRegister 14 (with_places into lo hi digit)
 unfolding with_places from_to
 places_register into lo hi digit valid small =
     placed (λ place. if nat_le lo place && nat_le place hi then digit place else slice_index into place)
-    (λ place. small_if (nat_le lo place && nat_le place hi) (digit place) (slice_index into place) (small place)
-    (digit_at into place valid))
+    (λ place. cond_both _ (digit place) (slice_index into place) (λ n. n < 16) (λ _. small place) (λ _. digit_at into place valid))
 
 pub copied : (into x : List ℕ) (lo hi : ℕ) → IsRegister 14 into → IsRegister 14 x → IsRegister 14 (copy_of into x lo hi)
 copied into x lo hi valid x_valid = places_register into lo hi (λ place. slice_index x place) valid (λ place. digit_at x place x_valid)
@@ -66,12 +61,12 @@ copied into x lo hi valid x_valid = places_register into lo hi (λ place. slice_
 pub up : (into x : List ℕ) (lo hi : ℕ) → IsRegister 14 into → IsRegister 14 x → IsRegister 14 (shifted_left into x lo hi)
 up into x lo hi valid x_valid =
     places_register into lo hi (λ place. if place == lo then 0 else slice_index x (place - 1)) valid
-    (λ place. small_if (place == lo) 0 (slice_index x (place - 1)) (omega arith) (digit_at x (place - 1) x_valid))
+    (λ place. cond_both _ 0 (slice_index x (place - 1)) (λ n. n < 16) (λ _. omega arith) (λ _. digit_at x (place - 1) x_valid))
 
 pub down : (into x : List ℕ) (lo hi : ℕ) → IsRegister 14 into → IsRegister 14 x → IsRegister 14 (shifted_right into x lo hi)
 down into x lo hi valid x_valid =
     places_register into lo hi (λ place. if place == hi then 0 else slice_index x (place + 1)) valid
-    (λ place. small_if (place == hi) 0 (slice_index x (place + 1)) (omega arith) (digit_at x (place + 1) x_valid))
+    (λ place. cond_both _ 0 (slice_index x (place + 1)) (λ n. n < 16) (λ _. omega arith) (λ _. digit_at x (place + 1) x_valid))
 
 -- Memory.
 register_in : (list : List (List ℕ)) (index : ℕ) → All (IsRegister 14) list → IsRegister 14 (slice_index_or list index zeros)
@@ -80,27 +75,18 @@ register_in list index all = elim (cases_lt index (length list)) [
   | inr past ↦ subst (IsRegister 14) (sym (get_or_past list index zeros past)) zeros_register
 ]
 
-register_if : (t : Bool) (x y : List ℕ) → IsRegister 14 x → IsRegister 14 y → IsRegister 14 (if t then x else y)
-register_if true x y first second = first
-register_if false x y first second = second
-
 pub held_at : (memory : RegisterMap) (address : ℕ) → HoldsRegisters memory → IsRegister 14 (register_at memory address)
 held_at memory address holds =
-    register_if (nat_lt address status_end) (slice_index_or memory.status address zeros)
-    (if nat_lt address main_start then zeros else slice_index_or memory.main (address - main_start) zeros)
-    (register_in memory.status address holds.status)
-    (register_if (nat_lt address main_start) zeros (slice_index_or memory.main (address - main_start) zeros) zeros_register
-    (register_in memory.main (address - main_start) holds.main))
-
-memory_if : (t : Bool) (x y : RegisterMap) → HoldsRegisters x → HoldsRegisters y → HoldsRegisters (if t then x else y)
-memory_if true x y first second = first
-memory_if false x y first second = second
+    cond_both (nat_lt address status_end) (slice_index_or memory.status address zeros) _ (IsRegister 14)
+    (λ _. register_in memory.status address holds.status)
+    (λ _. cond_both (nat_lt address main_start) zeros (slice_index_or memory.main (address - main_start) zeros) (IsRegister 14)
+    (λ _. zeros_register) (λ _. register_in memory.main (address - main_start) holds.main))
 
 pub held_with : (memory : RegisterMap) (address : ℕ) (register : List ℕ) → HoldsRegisters memory → IsRegister 14 register
     → HoldsRegisters (with_register memory address register)
 held_with memory address register holds valid =
-    memory_if (nat_lt address status_end) (record memory { status = slice_set memory.status address register })
-    (if nat_lt address main_start then memory else record memory { main = slice_set memory.main (address - main_start) register })
-    (record { status = All-set (IsRegister 14) memory.status address register valid holds.status; main = holds.main })
-    (memory_if (nat_lt address main_start) memory (record memory { main = slice_set memory.main (address - main_start) register }) holds
-    (record { status = holds.status; main = All-set (IsRegister 14) memory.main (address - main_start) register valid holds.main }))
+    cond_both (nat_lt address status_end) (record memory { status = slice_set memory.status address register }) _ HoldsRegisters
+    (λ _. assumption (All-set (IsRegister 14) memory.status address register valid holds.status))
+    (λ _. cond_both (nat_lt address main_start) memory (record memory { main = slice_set memory.main (address - main_start) register })
+    HoldsRegisters (λ _. holds)
+    (λ _. assumption (All-set (IsRegister 14) memory.main (address - main_start) register valid holds.main)))

@@ -1,7 +1,7 @@
 -- Each exact size above zero has its nearest decimal: it is cut to eleven digits, and these are rounded.
-use Rattle.std.proofs.Common.{◌≡◌, ℕ, zero, suc, ◌+◌, ◌-◌, ◌*◌, ◌/◌, ◌^◌, ◌<◌, ◌≤◌, inl, inr, sym, ◌∙◌, ap, refl, subst}
+use Rattle.std.proofs.Common.{◌≡◌, ℕ, zero, suc, ◌+◌, ◌-◌, ◌*◌, ◌/◌, ◌^◌, ◌<◌, ◌≤◌, inl, inr, ◌∙◌, ap, refl, subst}
 use Rattle.std.proofs.Common.{arith, Result, Ok, Err}
-use Rattle.std.proofs.Common.{Bool, true, false, MatchBool, IsOkAnd}
+use Rattle.std.proofs.Common.{true, false}
 use Rattle.std.specs.Prelude.{ℤ, pos, negsuc, nat_le}
 use Rattle.std.proofs.Math.Nat.{mul-le-mul_right, mul-le-mul, div-mul-le_self, lt-div-mul-add}
 use Rattle.std.proofs.lemmas.Nat.{pow-add, le-div, div_below}
@@ -48,11 +48,9 @@ first_eleven v whole bar count long least next enough at_least below =
       bar = bar;
       long = le-div (10 ^ 10) whole p p_pos (omega arith);
       short = div_below whole p (10 ^ 11) p_pos (omega arith);
-      at_least =
-          at_least_less v whole (10 ^ bar) (whole / p * p) (10 ^ bar) q_pos q_pos (mul-le-mul_right (10 ^ bar) low) at_least;
+      at_least = at_least_less v whole (10 ^ bar) (whole / p * p) (10 ^ bar) q_pos q_pos (mul-le-mul_right (10 ^ bar) low) at_least;
       below =
-          below_more v (whole + 1) (10 ^ bar) ((whole / p + 1) * p) (10 ^ bar) q_pos q_pos
-          (mul-le-mul_right (10 ^ bar) next_whole) below;
+          below_more v (whole + 1) (10 ^ bar) ((whole / p + 1) * p) (10 ^ bar) q_pos q_pos (mul-le-mul_right (10 ^ bar) next_whole) below;
     }
 
 ten_at_least : (count whole : ℕ) → 10 ^ 10 ≤ whole → whole < 10 ^ (count + 1) → 10 ≤ count
@@ -123,18 +121,10 @@ units-ten_of sign digits steps ten small = refl
 has_bounded : (sign : Sign) (digits : ℕ) (exponent : ℤ) → IsTenDigits digits → HasBounded sign digits exponent
 has_bounded sign digits (negsuc steps) ten = record { answer = Ok Zero; bounded = refl }
 has_bounded sign digits (pos steps) ten = elim (cases_lt 198 steps) [
-  | inl above ↦
-      let t : nat_le steps 198 ≡ false = grind (arith, nat_tests) in
-      let answer : Result Ten DecimalFault = Err Range in
-      let Then : Type 0 = IsOkAnd answer (λ number. units number ≡ with_sign sign (size_of digits steps)) in
-      let P : Bool → Type 0 = λ b. MatchBool b Then (answer ≡ Err Range) in
-      record { answer = answer; bounded = subst P (sym t) refl }
+  | inl above ↦ let t : nat_le steps 198 ≡ false = grind (arith, nat_tests) in record { answer = Err Range; bounded = rw t refl }
   | inr within ↦
       let t : nat_le steps 198 ≡ true = grind (arith, nat_tests) in
-      let answer : Result Ten DecimalFault = Ok (ten_of sign digits steps ten within) in
-      let Then : Type 0 = IsOkAnd answer (λ number. units number ≡ with_sign sign (size_of digits steps)) in
-      let P : Bool → Type 0 = λ b. MatchBool b Then (answer ≡ Err Range) in
-      record { answer = answer; bounded = subst P (sym t) (units-ten_of sign digits steps ten within) }
+      record { answer = Ok (ten_of sign digits steps ten within); bounded = rw t (units-ten_of sign digits steps ten within) }
 ]
 
 -- The rounded answer.

@@ -9,10 +9,10 @@ use Rattle.h41_asm.specs.declared.fault.SourceFault.TheVariants.{BadOperand}
 use Rattle.h41_asm.specs.Faults.{line_length, read_length}
 use Rattle.h41_asm.specs.Operands.{is_text, text_in}
 use Rattle.h41_asm.specs.Placing.{Labels, LineSpells, LinesSpell, SpellsRead, StatementSpells}
-use Rattle.h41_asm.specs.SourceLines.{SourceLine, is_name, reference_in}
+use Rattle.h41_asm.specs.SourceLines.{SourceLine, is_name}
 use Rattle.h41_asm.specs.Statements.{Statement, Words, OutOfReach, LongJumpTo, ShortJumpTo, EntryAt, name_words, reading_of}
 use Rattle.h41_asm.specs.Statements.{value_statement, singles}
-use Rattle.h41_asm.specs.Statements.{statement_length, takers, takes_entry, takes_name}
+use Rattle.h41_asm.specs.Statements.{statement_length, takers}
 use Rattle.h41_laws_words.specs.DirectivesRead.{lines_length}
 
 -- The number of a line's own words is the length of the line.
@@ -72,18 +72,6 @@ placed labels origin (first ∷ before) line behind words spelled =
     }
 
 -- The meaning of the directives.
-name_taken : (word : List ℕ) → reading_of (codes "NAME" ∷ word ∷ []) ≡ ok_or (takes_name word) BadOperand
-unfolding singles takers
-name_taken word = refl
-
-entry_taken : (word : List ℕ) → reading_of (codes "ENTRY" ∷ word ∷ []) ≡ ok_or (takes_entry 0 word) BadOperand
-unfolding singles takers
-entry_taken word = refl
-
-focal_taken : (word : List ℕ) → reading_of (codes "FOCAL" ∷ word ∷ []) ≡ ok_or (takes_entry 0x200 word) BadOperand
-unfolding singles takers
-focal_taken word = refl
-
 quoted_is : (first last : ℕ) (inner text : List ℕ) → first ≡ 34 → last ≡ 34 → inner ≡ text → is_text text ≡ true
     → (if first == 34 && last == 34 && is_text inner then Some inner else None) ≡ Some text
 quoted_is first last inner text e f g good = rw (e, f, g, good) refl
@@ -98,17 +86,13 @@ text_quoted text good =
 
 pub name_reading : (text : List ℕ) → is_text text ≡ true
     → reading_of (codes "NAME" ∷ (34 ∷ text ++ 34 ∷ []) ∷ []) ≡ Ok (Words (name_words text))
-name_reading text good =
-    name_taken (34 ∷ text ++ 34 ∷ [])
-    ∙ ap (λ found. ok_or (value_statement (λ t. Words (name_words t)) found) BadOperand) (text_quoted text good)
-
-name_referred : (name : List ℕ) → is_name name ≡ true → reference_in (58 ∷ name) ≡ Some name
-name_referred name good = rw good refl
+unfolding singles takers
+name_reading text good = ap (λ found. ok_or (value_statement (λ t. Words (name_words t)) found) BadOperand) (text_quoted text good)
 
 pub entry_reading : (name : List ℕ) → is_name name ≡ true → reading_of (codes "ENTRY" ∷ (58 ∷ name) ∷ []) ≡ Ok (EntryAt 0 name)
-entry_reading name good = entry_taken (58 ∷ name) ∙ ap (λ found. ok_or (value_statement (λ n. EntryAt 0 n) found) BadOperand)
-    (name_referred name good)
+unfolding singles takers
+entry_reading name good = rw good refl
 
 pub focal_reading : (name : List ℕ) → is_name name ≡ true → reading_of (codes "FOCAL" ∷ (58 ∷ name) ∷ []) ≡ Ok (EntryAt 0x200 name)
-focal_reading name good =
-    focal_taken (58 ∷ name) ∙ ap (λ found. ok_or (value_statement (λ n. EntryAt 0x200 n) found) BadOperand) (name_referred name good)
+unfolding singles takers
+focal_reading name good = rw good refl

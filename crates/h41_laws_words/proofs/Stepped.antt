@@ -1,6 +1,5 @@
 -- The change that a word makes, if its sums and differences exist.
-use Rattle.std.proofs.Common.{◌≡◌, ℕ, ◌<◌, ◌≤◌, Bool, true, false, List, Option, Some, None, Result, Ok, Err, refl, ap, ◌∙◌, arith}
-use Rattle.std.proofs.lemmas.List.Elements.{All-replicate}
+use Rattle.std.proofs.Common.{◌≡◌, ℕ, ◌<◌, ◌≤◌, Bool, true, false, List, Option, Some, None, Result, Ok, Err, refl, ap, ap₂}
 use Rattle.h41_digits.specs.Register.{IsRegister}
 use Rattle.h41_fields.specs.Field.{first_place, last_place}
 use Rattle.h41_fields.specs.FieldLaws.{PlacesAreOrdered}
@@ -22,12 +21,10 @@ use Rattle.h41_nut.specs.declared.base.Base.TheVariants.{Hexadecimal, Decimal}
 use Rattle.h41_nut.specs.declared.refusal.WordRefusal.{WordRefusal}
 use Rattle.h41_laws_words.specs.DigitAnswers.{DifferenceHasOneResult, HasOneResult, SumHasOneResult}
 use Rattle.h41_laws_words.specs.HasOne.{HasOne}
-use Rattle.h41_laws_words.proofs.Answering.{Has}
+use Rattle.h41_laws_words.proofs.Answering.{Has, has_one}
 use Rattle.h41_laws_words.specs.WordAnswers.{AcceptedWordHasOneChange, HasRegisters, WordHasOneAnswer}
+use Rattle.h41_laws_words.proofs.Registers.{zeros_register}
 use Rattle.h41_laws_words.proofs.Spans.{last_inside}
-
-zeros_valid : IsRegister 14 zeros
-zeros_valid = record { size = refl; each = All-replicate (λ digit. digit < 16) 14 0 (omega arith) }
 
 -- A register and a carry by a rule.
 abbrev Gives : (List ℕ → Bool → Type 0) → Type 0
@@ -67,17 +64,17 @@ module _ (ordered : PlacesAreOrdered) (sums : SumHasOneResult) (differences : Di
     operates : (operation : Operation) (s : Processor) → HasRegisters s → Has (Operates operation lo hi s)
     operates AddBToA s has = into_a _ s (sum s.base s.a s.a s.b false has.a has.a has.b)
     operates AddCToA s has = into_a _ s (sum s.base s.a s.a s.c false has.a has.a has.c)
-    operates IncrementA s has = into_a _ s (sum s.base s.a s.a zeros true has.a has.a zeros_valid)
+    operates IncrementA s has = into_a _ s (sum s.base s.a s.a zeros true has.a has.a zeros_register)
     operates SubtractBFromA s has = into_a _ s (difference s.base s.a s.a s.b false has.a has.a has.b)
-    operates DecrementA s has = into_a _ s (difference s.base s.a s.a zeros true has.a has.a zeros_valid)
+    operates DecrementA s has = into_a _ s (difference s.base s.a s.a zeros true has.a has.a zeros_register)
     operates SubtractCFromA s has = into_a _ s (difference s.base s.a s.a s.c false has.a has.a has.c)
     operates DoubleC s has = into_c _ s (sum s.base s.c s.c s.c false has.c has.c has.c)
     operates AddAToC s has = into_c _ s (sum s.base s.c s.a s.c false has.c has.a has.c)
-    operates IncrementC s has = into_c _ s (sum s.base s.c s.c zeros true has.c has.c zeros_valid)
+    operates IncrementC s has = into_c _ s (sum s.base s.c s.c zeros true has.c has.c zeros_register)
     operates SubtractCFromAToC s has = into_c _ s (difference s.base s.c s.a s.c false has.c has.a has.c)
-    operates DecrementC s has = into_c _ s (difference s.base s.c s.c zeros true has.c has.c zeros_valid)
-    operates NegateC s has = into_c _ s (difference s.base s.c zeros s.c false has.c zeros_valid has.c)
-    operates ComplementC s has = into_c _ s (difference s.base s.c zeros s.c true has.c zeros_valid has.c)
+    operates DecrementC s has = into_c _ s (difference s.base s.c s.c zeros true has.c has.c zeros_register)
+    operates NegateC s has = into_c _ s (difference s.base s.c zeros s.c false has.c zeros_register has.c)
+    operates ComplementC s has = into_c _ s (difference s.base s.c zeros s.c true has.c zeros_register has.c)
     operates operation s has = alone _
 
   effect : (row : Row) (s : Nut) → HasRegisters s.processor → Has (WordEffect row s)
@@ -96,9 +93,7 @@ module _ (ordered : PlacesAreOrdered) (sums : SumHasOneResult) (differences : Di
       record { answer = found.answer; right = record { accepted = none; effect = found.right } }
 
   pub one_change : MicroIsDetermined → AcceptedWordHasOneChange
-  one_change determined s has none =
-      let found = accepted s has none in
-      record { answer = found.answer; right = found.right; only = λ other again. determined s other found.answer again found.right }
+  one_change determined s has none = has_one (accepted s has none) (λ x y one other. determined s x y one other)
 
 -- An answer and a state as a pair.
 abbrev Outcome : Type 0
@@ -107,13 +102,10 @@ Outcome = Result (Unit {0}) WordRefusal × Nut
 abbrev outcome : Result (Unit {0}) WordRefusal → Nut → Outcome
 outcome result t = (result, t)
 
-same_outcome : (x y : Outcome) → x.0 ≡ y.0 → x.1 ≡ y.1 → x ≡ y
-same_outcome x y p q = ap (λ (r : Result (Unit {0}) WordRefusal). outcome r x.1) p ∙ ap (λ (t : Nut). outcome y.0 t) q
-
 -- A step that is accepted.
 only_accepted : (s : Nut) (change : HasOne (Micro s)) (result : Result (Unit {0}) WordRefusal) (t : Nut)
     → RefusesOr None Micro result s t → outcome result t ≡ outcome (Ok tt) change.answer
-only_accepted s change (Ok done) t is = same_outcome (Ok done, t) (Ok tt, change.answer) refl (change.only t is.change)
+only_accepted s change (Ok done) t is = ap (λ (t : Nut). outcome (Ok tt) t) (change.only t is.change)
 only_accepted s change (Err why) t is = absurd (let never : Some why ≡ None = is.refusal in cc)
 
 -- A step that is refused.
@@ -121,20 +113,21 @@ only_refused : (s : Nut) (why : WordRefusal) (result : Result (Unit {0}) WordRef
     → RefusesOr (Some why) Micro result s t → outcome result t ≡ outcome (Err why) s
 only_refused s why (Ok done) t is = absurd (let never : None ≡ Some why = is.refusal in cc)
 only_refused s why (Err other) t is =
-    let same : other ≡ why = (let both : Some other ≡ Some why = is.refusal in cc) in
-    same_outcome (Err other, t) (Err why, s) (ap (λ (r : WordRefusal). Err r) same) is.stays
+    let both : Some other ≡ Some why = is.refusal in
+    let same : other ≡ why = cc in
+    ap₂ (λ (r : WordRefusal) (t : Nut). outcome (Err r) t) same is.stays
 
 answered : (s : Nut) (reason : Option WordRefusal) → (reason ≡ None → HasOne (Micro s))
     → HasOne {A = Outcome} (λ left. RefusesOr reason Micro left.0 s left.1)
 answered s None change =
     let found = change refl in
     record {
-      answer = outcome (Ok tt) found.answer;
+      answer = (Ok tt, found.answer);
       right = record { refusal = refl; change = found.right; stays = tt };
       only = λ other is. only_accepted s found other.0 other.1 is;
     }
 answered s (Some why) change = record {
-  answer = outcome (Err why) s;
+  answer = (Err why, s);
   right = record { refusal = refl; change = tt; stays = refl };
   only = λ other is. only_refused s why other.0 other.1 is;
 }

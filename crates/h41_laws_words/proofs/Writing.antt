@@ -1,13 +1,13 @@
 -- A decimal is written to a register, and the value of a register that contains a number is a
 -- decimal.
 use Rattle.std.proofs.Common.{◌≡◌, ℕ, zero, suc, ◌+◌, ◌-◌, ◌*◌, ◌/◌, ◌%◌, ◌^◌, ◌<◌, ◌≤◌, inl, inr, sym, ◌∙◌, ap, refl, subst, arith}
-use Rattle.std.proofs.Common.{List, map, length, Option, Some, None, Bool, true, false}
+use Rattle.std.proofs.Common.{List, map, Option, Some, None, Bool, true, false}
 use Rattle.std.specs.Prelude.{ℤ, pos, ◌==◌, if◌then◌else◌, nat_le, nat_lt, slice_index, slice_index_or, ◌&&◌}
 use Rattle.std.specs.Option.{option_map}
 use Rattle.std.specs.List.{range_with_len}
 use Rattle.std.proofs.Math.Nat.{div-div-eq-div-mul, pow-suc}
 use Rattle.std.proofs.lemmas.Nat.{pow-add, div_below}
-use Rattle.std.proofs.lemmas.Bool.{cases_lt}
+use Rattle.std.proofs.lemmas.Bool.{cases_lt, cond_both}
 use Rattle.std.proofs.lemmas.Bool.Decides.{nat_tests}
 use Rattle.std.proofs.lemmas.List.FromFn.{get_or-map-range_with_len}
 use Rattle.h41_digits.specs.Register.{IsRegister}
@@ -22,14 +22,13 @@ use Rattle.h41_decimal.proofs.Held.{below_power}
 use Rattle.h41_decimal.proofs.Registers.{parts_hold}
 use Rattle.h41_laws_words.specs.DecimalAnswers.{HoldsNumber}
 use Rattle.h41_laws_words.proofs.Answering.{Has}
+use Rattle.h41_laws_words.proofs.Registers.{placed}
 use Rattle.h41_laws_words.proofs.Rounding.{ten_of, units-ten_of}
 
 -- The digit at a place, from the mantissa, the exponent and the sign.
 abbrev digit_at : ℕ → ℕ → ℕ → ℕ → ℕ
 digit_at mantissa exponent sign place =
-    if nat_lt place 3 then exponent / 10 ^ place % 10
-    else if nat_lt place 13 then mantissa / 10 ^ (place - 3) % 10
-    else sign
+    if nat_lt place 3 then exponent / 10 ^ place % 10 else if nat_lt place 13 then mantissa / 10 ^ (place - 3) % 10 else sign
 
 written : ℕ → ℕ → ℕ → List ℕ
 written mantissa exponent sign = map (digit_at mantissa exponent sign) (range_with_len 0 14)
@@ -42,27 +41,13 @@ written_at mantissa exponent sign place d inside =
 
 digit_small : (mantissa exponent sign place : ℕ) → sign < 16 → digit_at mantissa exponent sign place < 16
 digit_small mantissa exponent sign place small =
-    let a : exponent / 10 ^ place % 10 < 10 = omega arith in
-    let b : mantissa / 10 ^ (place - 3) % 10 < 10 = omega arith in
-    chosen (nat_lt place 3) (nat_lt place 13) (exponent / 10 ^ place % 10) (mantissa / 10 ^ (place - 3) % 10)
-    sign (omega arith) (omega arith) small
-  where
-    chosen : (s t : Bool) (a b c : ℕ) → a < 16 → b < 16 → c < 16 → (if s then a else if t then b else c) < 16
-    chosen true t a b c h k l = h
-    chosen false true a b c h k l = k
-    chosen false false a b c h k l = l
-
-written_length : (mantissa exponent sign : ℕ) → length (written mantissa exponent sign) ≡ 14
-unfolding written
-written_length mantissa exponent sign = refl
+    cond_both (nat_lt place 3) _ _ (λ n. n < 16) (λ _. omega arith)
+    (λ _. cond_both (nat_lt place 13) _ _ (λ n. n < 16) (λ _. omega arith) (λ _. small))
 
 written_register : (mantissa exponent sign : ℕ) → sign < 16 → IsRegister 14 (written mantissa exponent sign)
-written_register mantissa exponent sign small = record {
-  size = written_length mantissa exponent sign;
-  each = λ place d inside.
-      let within : place < 14 = omega (arith, written_length mantissa exponent sign) in
-      subst (λ (n : ℕ). n < 16) (sym (written_at mantissa exponent sign place d within)) (digit_small mantissa exponent sign place small);
-}
+unfolding written
+written_register mantissa exponent sign small =
+    placed (digit_at mantissa exponent sign) (λ place. digit_small mantissa exponent sign place small)
 
 -- The digits of a number are read as the number.
 put : (digit n rest : ℕ) (others : Option ℕ) → digit ≤ 9 → others ≡ Some rest → digit + 10 * rest ≡ n
@@ -98,18 +83,14 @@ low_place : (mantissa exponent sign k : ℕ) → k < 3 → slice_index (written 
 low_place mantissa exponent sign k low =
     let at : 0 + k ≡ k = omega arith in
     let t : nat_lt k 3 ≡ true = grind (arith, nat_tests) in
-    ap (slice_index (written mantissa exponent sign)) at
-    ∙ (written_at mantissa exponent sign k 0 (omega arith)
-    ∙ ap (λ b. if b then exponent / 10 ^ k % 10 else if nat_lt k 13 then mantissa / 10 ^ (k - 3) % 10 else sign) t)
+    rw at (written_at mantissa exponent sign k 0 (omega arith) ∙ rw t refl)
 
 high_place : (mantissa exponent sign k : ℕ) → k < 10 → slice_index (written mantissa exponent sign) (3 + k) ≡ mantissa / 10 ^ k % 10
 high_place mantissa exponent sign k low =
     let s : nat_lt (3 + k) 3 ≡ false = grind (arith, nat_tests) in
     let t : nat_lt (3 + k) 13 ≡ true = grind (arith, nat_tests) in
     let at : 3 + k - 3 ≡ k = omega arith in
-    written_at mantissa exponent sign (3 + k) 0 (omega arith)
-    ∙ (ap (λ b. if b then exponent / 10 ^ (3 + k) % 10 else if nat_lt (3 + k) 13 then mantissa / 10 ^ (3 + k - 3) % 10 else sign) s
-    ∙ (ap (λ b. if b then mantissa / 10 ^ (3 + k - 3) % 10 else sign) t ∙ ap (λ n. mantissa / 10 ^ n % 10) at))
+    written_at mantissa exponent sign (3 + k) 0 (omega arith) ∙ rw (s, t, at) refl
 
 -- The exponent and the sign as digits.
 record HasExponent (steps : ℕ) : Type 0 where

@@ -38,7 +38,7 @@ pub digit_in_both : (x : List ℕ) (place : ℕ) → number_of 10 x place place 
 digit_in_both x place = one_digit 10 x place ∙ sym (one_digit 16 x place)
 
 -- A number of decimal digits is below the power of ten.
-decimal_from : (x : List ℕ) (lo count : ℕ) → ((place : ℕ) → lo ≤ place → place < lo + count → slice_index x place ≤ 9)
+pub decimal_from : (x : List ℕ) (lo count : ℕ) → ((place : ℕ) → lo ≤ place → place < lo + count → slice_index x place ≤ 9)
     → number_from 10 x lo count < 10 ^ count
 decimal_from x lo zero digits = omega (arith, pow-zero 10)
 decimal_from x lo (suc count) digits =

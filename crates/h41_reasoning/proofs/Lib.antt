@@ -14,3 +14,4 @@ pub mod Memory
 pub mod Decimals
 pub mod Bytes
 pub mod Plugged
+pub mod Differences

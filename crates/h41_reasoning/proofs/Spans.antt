@@ -94,7 +94,7 @@ parts base lo mid hi x first second =
     ∙ ap (λ place. number_from base x lo (mid + 1 - lo) + base ^ (mid + 1 - lo) * number_from base x place (hi + 1 - (mid + 1))) at
 
 -- A number in base 16 is below the power of its digits.
-below_from : (x : List ℕ) (lo count : ℕ) → ((place : ℕ) → place < lo + count → slice_index x place < 16)
+pub below_from : (x : List ℕ) (lo count : ℕ) → ((place : ℕ) → place < lo + count → slice_index x place < 16)
     → number_from 16 x lo count < 16 ^ count
 below_from x lo zero digits = omega (arith, pow-zero 16)
 below_from x lo (suc count) digits =

@@ -1,4 +1,4 @@
-use Rattle.std.proofs.Common.{ap, refl}
+use Rattle.std.proofs.Common.{ap, refl, rules}
 use Rattle.std.proofs.lemmas.Result.{err_from_is_err_and}
 use Rattle.h41_positions.specs.LabelledMachine.{LabelledMachine, machine_of}
 use Rattle.h41_focal.proofs.RowApplied.{opened_row}
@@ -30,10 +30,15 @@ returns-clause-carried g c = λ named.
     c.agrees_with-holds.result named _ zeros c.answer.result refl refl refl refl c.agrees_with-holds.ensures c.in_ok-lead.ensures
     c.answer.ensures))
 
-pub returns-clause-left : goal.returns-clause-left
-returns-clause-left g c =
-    left_flag c.machine.inside.ram c.args.machine.now (ap (λ (machine : LabelledMachine). machine.ram) c.machine.view_is)
-    c.set_flag.new.self (ap (λ (ram : RamState). ram.touched) c.set_flag.ensures.written)
+pub returns-clause-keeps : goal.returns-clause-keeps
+returns-clause-keeps g c =
+    record {
+      mark = search rules;
+      labels = search rules;
+      left =
+          left_flag c.machine.inside.ram c.args.machine.now (ap (λ (machine : LabelledMachine). machine.ram) c.machine.view_is)
+          c.set_flag.new.self (ap (λ (ram : RamState). ram.touched) c.set_flag.ensures.written);
+    }
 
 pub answer-requires : goal.answer-requires
 answer-requires g c = assumption

@@ -12,7 +12,6 @@ returns-in-OfYAndX g c =
           (let row = c.work_of.ensures in rw c.in-Some.is at row) (rw c.in-OfYAndX.is (c.of_y_and_x.ensures.done 0 c.args.pages.now));
       unchanged = tt;
       keeps = c.of_y_and_x.ensures.keeps;
-      left = c.of_y_and_x.ensures.left;
     }
 
 pub returns-in-OfX : goal.returns-in-OfX
@@ -24,7 +23,6 @@ returns-in-OfX g c =
           (let row = c.work_of.ensures in rw c.in-Some.is at row) (rw c.in-OfX.is (c.of_x.ensures.done 0 c.args.pages.now));
       unchanged = tt;
       keeps = c.of_x.ensures.keeps;
-      left = c.of_x.ensures.left;
     }
 
 pub returns-in-Square : goal.returns-in-Square
@@ -36,7 +34,6 @@ returns-in-Square g c =
           (let row = c.work_of.ensures in rw c.in-Some.is at row) (rw c.in-Square.is (c.square.ensures.done 0 c.args.pages.now));
       unchanged = tt;
       keeps = c.square.ensures.keeps;
-      left = c.square.ensures.left;
     }
 
 pub returns-in-Percent : goal.returns-in-Percent
@@ -48,7 +45,6 @@ returns-in-Percent g c =
           (let row = c.work_of.ensures in rw c.in-Some.is at row) (rw c.in-Percent.is (c.percent.ensures.done 0 c.args.pages.now));
       unchanged = tt;
       keeps = c.percent.ensures.keeps;
-      left = c.percent.ensures.left;
     }
 
 pub returns-in-ChangeSign : goal.returns-in-ChangeSign
@@ -60,7 +56,6 @@ returns-in-ChangeSign g c =
           (let row = c.work_of.ensures in rw c.in-Some.is at row) (rw c.in-ChangeSign.is (c.change_sign.ensures.done 0 c.args.pages.now));
       unchanged = tt;
       keeps = c.change_sign.ensures.keeps;
-      left = c.change_sign.ensures.left;
     }
 
 pub returns-in-Ask : goal.returns-in-Ask
@@ -72,7 +67,6 @@ returns-in-Ask g c =
           (let row = c.work_of.ensures in rw c.in-Some.is at row) (rw c.in-Ask.is (c.ask.ensures.carried 0));
       unchanged = c.ask.ensures.unchanged;
       keeps = c.ask.ensures.keeps;
-      left = c.ask.ensures.left;
     }
 
 pub returns-in-Move : goal.returns-in-Move
@@ -84,7 +78,6 @@ returns-in-Move g c =
           (let row = c.work_of.ensures in rw c.in-Some.is at row) (rw c.in-Move.is (c.move_stack.ensures.done 0 c.args.pages.now));
       unchanged = tt;
       keeps = c.move_stack.ensures.keeps;
-      left = c.move_stack.ensures.left;
     }
 
 pub returns-in-Alpha : goal.returns-in-Alpha
@@ -96,7 +89,6 @@ returns-in-Alpha g c =
           (let row = c.work_of.ensures in rw c.in-Some.is at row) (rw c.in-Alpha.is (c.change_alpha.ensures.done 0 c.args.pages.now));
       unchanged = tt;
       keeps = c.change_alpha.ensures.keeps;
-      left = c.change_alpha.ensures.left;
     }
 
 pub returns-in-Display : goal.returns-in-Display
@@ -108,7 +100,6 @@ returns-in-Display g c =
           (let row = c.work_of.ensures in rw c.in-Some.is at row) (rw c.in-Display.is (c.show.ensures.done 0 c.args.pages.now));
       unchanged = tt;
       keeps = c.show.ensures.keeps;
-      left = c.show.ensures.left;
     }
 
 pub returns-in-Angles : goal.returns-in-Angles
@@ -120,7 +111,6 @@ returns-in-Angles g c =
           (let row = c.work_of.ensures in rw c.in-Some.is at row) (rw c.in-Angles.is (c.set_angle_unit.ensures.done 0 c.args.pages.now));
       unchanged = tt;
       keeps = c.set_angle_unit.ensures.keeps;
-      left = c.set_angle_unit.ensures.left;
     }
 
 pub returns-in-ClearRegisters : goal.returns-in-ClearRegisters
@@ -133,7 +123,6 @@ returns-in-ClearRegisters g c =
           (rw c.in-ClearRegisters.is (c.clear_registers.ensures.done 0 c.args.pages.now));
       unchanged = tt;
       keeps = c.clear_registers.ensures.keeps;
-      left = c.clear_registers.ensures.left;
     }
 
 pub returns-in-Return : goal.returns-in-Return
@@ -145,7 +134,6 @@ returns-in-Return g c =
           (let row = c.work_of.ensures in rw c.in-Some.is at row) (rw c.in-Return.is (c.go_back.ensures.done 0));
       unchanged = tt;
       keeps = c.go_back.ensures.keeps;
-      left = c.go_back.ensures.left;
     }
 
 pub returns-in-Nothing : goal.returns-in-Nothing
@@ -157,7 +145,6 @@ returns-in-Nothing g c =
           (let row = c.work_of.ensures in rw c.in-Some.is at row) (rw c.in-Nothing.is (c.do_nothing.ensures.done 0 c.args.pages.now));
       unchanged = tt;
       keeps = c.do_nothing.ensures.keeps;
-      left = c.do_nothing.ensures.left;
     }
 
 pub ask-requires : goal.ask-requires

@@ -15,7 +15,6 @@ returns-in-Some-OfYAndX g c =
           (c.of_y_and_x.ensures.done 0 c.args.pages.now);
       unchanged = tt;
       keeps = c.of_y_and_x.ensures.keeps;
-      left = c.of_y_and_x.ensures.left;
     }
 
 pub returns-in-Some-Move : goal.returns-in-Some-Move
@@ -29,7 +28,6 @@ returns-in-Some-Move g c =
           (c.move_stack.ensures.done 0 c.args.pages.now);
       unchanged = tt;
       keeps = c.move_stack.ensures.keeps;
-      left = c.move_stack.ensures.left;
     }
 
 pub returns-in-Some-OfX : goal.returns-in-Some-OfX
@@ -43,7 +41,6 @@ returns-in-Some-OfX g c =
           (c.of_x.ensures.done 0 c.args.pages.now);
       unchanged = tt;
       keeps = c.of_x.ensures.keeps;
-      left = c.of_x.ensures.left;
     }
 
 pub move_stack-requires : goal.move_stack-requires

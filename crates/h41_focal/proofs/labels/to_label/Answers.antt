@@ -31,10 +31,15 @@ returns-in-Some-clause-kept g c =
     let from_is : c.match-origin.from ≡ from_of c.args.origin c.machine.inside.focal.state.position =
     elim c.match-origin.branch [ in-Program w ↦ search rules | in-Typed w ↦ search rules ] in
     let kept = c.local.ensures.kept in
-    subst
-    (λ (machine : LabelledMachine). KeepsSearch machine.ram.registers
-    (local_search (from_of c.args.origin machine.focal.state.position) c.args.label) machine.focal.labels c.arrive.new.focal.labels)
-    c.machine.view_is (rw c.arrive.ensures.labels (rw from_is at kept))
+    record {
+      asks =
+          subst
+          (λ (machine : LabelledMachine). KeepsSearch machine.ram.registers
+          (local_search (from_of c.args.origin machine.focal.state.position) c.args.label) machine.focal.labels c.arrive.new.focal.labels)
+          c.machine.view_is (rw c.arrive.ensures.labels (rw from_is at kept));
+      mark = search rules;
+      left = search rules;
+    }
 
 pub returns-in-None-clause-done : goal.returns-in-None-clause-done
 returns-in-None-clause-done g c = λ named.
@@ -58,11 +63,16 @@ returns-in-None-clause-kept g c =
     let from_is : c.match-origin.from ≡ from_of c.args.origin c.machine.inside.focal.state.position =
     elim c.match-origin.branch [ in-Program w ↦ search rules | in-Typed w ↦ search rules ] in
     let kept = c.local.ensures.kept in
-    subst
-    (λ (machine : LabelledMachine). KeepsSearch machine.ram.registers
-    (local_search (from_of c.args.origin machine.focal.state.position) c.args.label) machine.focal.labels
-    c.fail.new.machine.focal.labels)
-    c.machine.view_is (rw c.fail.ensures.keeps.labels (rw from_is at kept))
+    record {
+      asks =
+          subst
+          (λ (machine : LabelledMachine). KeepsSearch machine.ram.registers
+          (local_search (from_of c.args.origin machine.focal.state.position) c.args.label) machine.focal.labels
+          c.fail.new.machine.focal.labels)
+          c.machine.view_is (rw c.fail.ensures.keeps.labels (rw from_is at kept));
+      mark = search rules;
+      left = search rules;
+    }
 
 pub arrive-requires : goal.arrive-requires
 arrive-requires g c = assumption

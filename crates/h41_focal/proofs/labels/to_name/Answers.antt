@@ -30,10 +30,15 @@ returns-in-Some-default-clause-done g c = λ named.
 
 pub returns-in-Some-default-clause-kept : goal.returns-in-Some-default-clause-kept
 returns-in-Some-default-clause-kept g c =
-    subst
-    (λ (machine : LabelledMachine). KeepsSearch machine.ram.registers (Some (Global c.args.name)) machine.focal.labels
-    c.arrive.new.focal.labels)
-    c.machine.view_is (rw c.arrive.ensures.labels c.global.ensures.kept)
+    record {
+      asks =
+          subst
+          (λ (machine : LabelledMachine). KeepsSearch machine.ram.registers (Some (Global c.args.name)) machine.focal.labels
+          c.arrive.new.focal.labels)
+          c.machine.view_is (rw c.arrive.ensures.labels c.global.ensures.kept);
+      mark = search rules;
+      left = search rules;
+    }
 
 pub returns-in-None-GoTo-clause-done : goal.returns-in-None-GoTo-clause-done
 returns-in-None-GoTo-clause-done g c = λ named.
@@ -52,10 +57,15 @@ returns-in-None-GoTo-clause-done g c = λ named.
 
 pub returns-in-None-GoTo-clause-kept : goal.returns-in-None-GoTo-clause-kept
 returns-in-None-GoTo-clause-kept g c =
-    subst
-    (λ (machine : LabelledMachine). KeepsSearch machine.ram.registers (Some (Global c.args.name)) machine.focal.labels
-    c.fail.new.machine.focal.labels)
-    c.machine.view_is (rw c.fail.ensures.keeps.labels c.global.ensures.kept)
+    record {
+      asks =
+          subst
+          (λ (machine : LabelledMachine). KeepsSearch machine.ram.registers (Some (Global c.args.name)) machine.focal.labels
+          c.fail.new.machine.focal.labels)
+          c.machine.view_is (rw c.fail.ensures.keeps.labels c.global.ensures.kept);
+      mark = search rules;
+      left = search rules;
+    }
 
 pub returns-in-None-Execute-clause-done : goal.returns-in-None-Execute-clause-done
 returns-in-None-Execute-clause-done g c = λ named.
@@ -89,10 +99,15 @@ returns-in-None-Execute-clause-unchanged g c =
 
 pub returns-in-None-Execute-clause-kept : goal.returns-in-None-Execute-clause-kept
 returns-in-None-Execute-clause-kept g c =
-    subst
-    (λ (machine : LabelledMachine). KeepsSearch machine.ram.registers (Some (Global c.args.name)) machine.focal.labels
-    c.call_named.new.machine.focal.labels)
-    c.machine.view_is (rw c.call_named.ensures.keeps.labels c.global.ensures.kept)
+    record {
+      asks =
+          subst
+          (λ (machine : LabelledMachine). KeepsSearch machine.ram.registers (Some (Global c.args.name)) machine.focal.labels
+          c.call_named.new.machine.focal.labels)
+          c.machine.view_is (rw c.call_named.ensures.keeps.labels c.global.ensures.kept);
+      mark = search rules;
+      left = search rules;
+    }
 
 pub arrive-requires : goal.arrive-requires
 arrive-requires g c = assumption

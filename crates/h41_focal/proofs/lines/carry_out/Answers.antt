@@ -2,7 +2,7 @@ use Rattle.std.proofs.Common.{Ok}
 use Rattle.h41_codes.specs.declared.line.Line.TheVariants as lines
 use Rattle.h41_rows.specs.Profile.{is_left_out}
 use Rattle.h41_focal.proofs.Begun.{same_machine}
-use Rattle.h41_focal.proofs.LinesTaken.{unsearched}
+use Rattle.h41_focal.proofs.LinesTaken.{out_kept, rest_kept}
 use Rattle.h41_focal.proofs.OutsideCalls.{called_module, carries_whole}
 use Rattle.h41_positions.specs.LabelledMachine.{machine_of}
 use Rattle.h41_focal.proofs.lines.carry_out.Goals as goal
@@ -15,9 +15,7 @@ returns-in-Null g c =
           carries_whole c.args.pages.now c.args.origin lines.Null (machine_of c.args.machine.now) (machine_of c.do_nothing.new.machine)
           (Ok c.do_nothing.result) (c.do_nothing.ensures.done 0 c.args.pages.now);
       unchanged = tt;
-      kept = c.do_nothing.ensures.keeps.labels;
-      mark = c.do_nothing.ensures.keeps.mark;
-      left = c.do_nothing.ensures.left;
+      kept = rest_kept _ _ c.do_nothing.ensures.keeps;
     })
 
 pub returns-in-LocalLabel : goal.returns-in-LocalLabel
@@ -29,9 +27,7 @@ returns-in-LocalLabel g c =
           (machine_of c.args.machine.now) (machine_of c.be_silent.new.machine)
           (Ok c.be_silent.result) (c.be_silent.ensures.done 0 c.args.pages.now);
       unchanged = tt;
-      kept = c.be_silent.ensures.keeps.labels;
-      mark = c.be_silent.ensures.keeps.mark;
-      left = c.be_silent.ensures.left;
+      kept = rest_kept _ _ c.be_silent.ensures.keeps;
     })
 
 pub returns-in-GlobalLabel : goal.returns-in-GlobalLabel
@@ -44,9 +40,7 @@ returns-in-GlobalLabel g c =
           (machine_of c.args.machine.now) (machine_of c.be_silent-in-GlobalLabel.new.machine)
           (Ok c.be_silent-in-GlobalLabel.result) (c.be_silent-in-GlobalLabel.ensures.done 0 c.args.pages.now);
       unchanged = tt;
-      kept = c.be_silent-in-GlobalLabel.ensures.keeps.labels;
-      mark = c.be_silent-in-GlobalLabel.ensures.keeps.mark;
-      left = c.be_silent-in-GlobalLabel.ensures.left;
+      kept = rest_kept _ _ c.be_silent-in-GlobalLabel.ensures.keeps;
     })
 
 pub returns-in-Number : goal.returns-in-Number
@@ -58,9 +52,7 @@ returns-in-Number g c =
           (machine_of c.args.machine.now) (machine_of c.number_line.new.machine)
           (Ok c.number_line.result) (c.number_line.ensures.done _ c.written.ensures 0 c.args.pages.now);
       unchanged = tt;
-      kept = c.number_line.ensures.keeps.labels;
-      mark = c.number_line.ensures.keeps.mark;
-      left = c.number_line.ensures.left;
+      kept = rest_kept _ _ c.number_line.ensures.keeps;
     })
 
 pub returns-in-Named : goal.returns-in-Named
@@ -70,8 +62,6 @@ returns-in-Named g c =
       taken = c.named.ensures.taken;
       unchanged = c.named.ensures.unchanged;
       kept = c.named.ensures.kept;
-      mark = c.named.ensures.mark;
-      left = c.named.ensures.left;
     })
 
 pub returns-in-Register : goal.returns-in-Register
@@ -83,9 +73,7 @@ returns-in-Register g c =
           (machine_of c.args.machine.now) (machine_of c.short.new.machine)
           c.short.result (c.short.ensures.taken c.args.pages.now);
       unchanged = same_machine c.args.machine.now c.short.new.machine c.short.result c.short.ensures.unchanged;
-      kept = c.short.ensures.keeps.labels;
-      mark = c.short.ensures.keeps.mark;
-      left = c.short.ensures.left;
+      kept = rest_kept _ _ c.short.ensures.keeps;
     })
 
 pub returns-in-Plain : goal.returns-in-Plain
@@ -97,9 +85,7 @@ returns-in-Plain g c =
           (machine_of c.args.machine.now) (machine_of c.plain.new.machine)
           c.plain.result (c.plain.ensures.taken);
       unchanged = same_machine c.args.machine.now c.plain.new.machine c.plain.result c.plain.ensures.unchanged;
-      kept = unsearched _ (is_left_out (lines.Plain c.in-Plain.function)) _ _ c.plain.ensures.keeps.labels;
-      mark = c.plain.ensures.keeps.mark;
-      left = c.plain.ensures.left;
+      kept = out_kept (is_left_out (lines.Plain c.in-Plain.function)) _ _ c.plain.ensures.keeps;
     })
 
 pub returns-in-WithOperand : goal.returns-in-WithOperand
@@ -111,11 +97,7 @@ returns-in-WithOperand g c =
           (machine_of c.args.machine.now) (machine_of c.with_operand.new.machine)
           c.with_operand.result (c.with_operand.ensures.taken);
       unchanged = same_machine c.args.machine.now c.with_operand.new.machine c.with_operand.result c.with_operand.ensures.unchanged;
-      kept =
-          unsearched _ (is_left_out (lines.WithOperand c.in-WithOperand.function c.in-WithOperand.operand))
-          _ _ c.with_operand.ensures.keeps.labels;
-      mark = c.with_operand.ensures.keeps.mark;
-      left = c.with_operand.ensures.left;
+      kept = out_kept (is_left_out (lines.WithOperand c.in-WithOperand.function c.in-WithOperand.operand)) _ _ c.with_operand.ensures.keeps;
     })
 
 pub returns-in-Module : goal.returns-in-Module
@@ -127,9 +109,7 @@ returns-in-Module g c =
           called_module c.args.pages.now c.args.origin c.in-Module.number c.in-Module.entry (machine_of c.args.machine.now)
           (machine_of c.call_module.new.machine) c.call_module.result done;
       unchanged = tt;
-      kept = c.call_module.ensures.keeps.labels;
-      mark = c.call_module.ensures.keeps.mark;
-      left = c.call_module.ensures.left;
+      kept = rest_kept _ _ c.call_module.ensures.keeps;
     })
 
 pub returns-in-BranchIndirect : goal.returns-in-BranchIndirect
@@ -139,8 +119,6 @@ returns-in-BranchIndirect g c =
       taken = c.indirect.ensures.taken;
       unchanged = c.indirect.ensures.unchanged;
       kept = c.indirect.ensures.kept;
-      mark = c.indirect.ensures.mark;
-      left = c.indirect.ensures.left;
     })
 
 pub returns-in-ShortGoTo : goal.returns-in-ShortGoTo
@@ -155,8 +133,6 @@ returns-in-ShortGoTo g c =
           (machine_of c.args.machine.now) (machine_of c.to_label.new.machine) (Ok c.to_label.result) done;
       unchanged = tt;
       kept = rw (c.new.ensures, c.number.ensures.value) at kept;
-      mark = c.to_label.ensures.mark;
-      left = c.to_label.ensures.left;
     })
 
 pub returns-in-End : goal.returns-in-End
@@ -168,9 +144,7 @@ returns-in-End g c =
           (machine_of c.args.machine.now) (machine_of c.go_back.new.machine)
           (Ok c.go_back.result) (c.go_back.ensures.done 0);
       unchanged = tt;
-      kept = c.go_back.ensures.keeps.labels;
-      mark = c.go_back.ensures.keeps.mark;
-      left = c.go_back.ensures.left;
+      kept = rest_kept _ _ c.go_back.ensures.keeps;
     })
 
 pub returns-in-FinalEnd : goal.returns-in-FinalEnd
@@ -182,9 +156,7 @@ returns-in-FinalEnd g c =
           (machine_of c.args.machine.now) (machine_of c.go_back-in-FinalEnd.new.machine)
           (Ok c.go_back-in-FinalEnd.result) (c.go_back-in-FinalEnd.ensures.done 0);
       unchanged = tt;
-      kept = c.go_back-in-FinalEnd.ensures.keeps.labels;
-      mark = c.go_back-in-FinalEnd.ensures.keeps.mark;
-      left = c.go_back-in-FinalEnd.ensures.left;
+      kept = rest_kept _ _ c.go_back-in-FinalEnd.ensures.keeps;
     })
 
 pub returns-in-BranchTo : goal.returns-in-BranchTo
@@ -198,8 +170,6 @@ returns-in-BranchTo g c =
           (Ok c.to_label-in-BranchTo.result) (c.to_label-in-BranchTo.ensures.done 0);
       unchanged = tt;
       kept = c.to_label-in-BranchTo.ensures.kept;
-      mark = c.to_label-in-BranchTo.ensures.mark;
-      left = c.to_label-in-BranchTo.ensures.left;
     })
 
 pub returns-in-Text : goal.returns-in-Text
@@ -211,9 +181,7 @@ returns-in-Text g c =
           (machine_of c.args.machine.now) (machine_of c.text_line.new.machine)
           (Ok c.text_line.result) (c.text_line.ensures.done 0 c.args.pages.now);
       unchanged = tt;
-      kept = c.text_line.ensures.keeps.labels;
-      mark = c.text_line.ensures.keeps.mark;
-      left = c.text_line.ensures.left;
+      kept = rest_kept _ _ c.text_line.ensures.keeps;
     })
 
 pub be_silent-requires : goal.be_silent-requires

@@ -6,14 +6,19 @@ use Rattle.h41_positions.specs.LabelledMachine.{LabelledMachine, machine_of}
 use Rattle.h41_rows.specs.Operands.{data_register}
 use Rattle.h41_focal.proofs.lines.short.Goals as goal
 
-pub returns-in-Ok-StoreRegister-clause-left : goal.returns-in-Ok-StoreRegister-clause-left
-returns-in-Ok-StoreRegister-clause-left g c = λ sound.
-    c.store.ensures.left
-    (data_found c.args.machine.now.ram.registers sound c.from.result c.in-Ok-StoreRegister.address
-    (subst
-    (λ (machine : LabelledMachine). IsAt (data_register machine.ram.registers c.from.result) c.in-Ok-StoreRegister.address)
-    c.machine.view_is (sym c.data_address.ensures ∙ c.in-Ok-StoreRegister.is-0)))
-    sound
+pub returns-in-Ok-StoreRegister-clause-keeps : goal.returns-in-Ok-StoreRegister-clause-keeps
+returns-in-Ok-StoreRegister-clause-keeps g c =
+    record {
+      mark = c.store.ensures.keeps.mark;
+      labels = c.store.ensures.keeps.labels;
+      left = λ sound.
+          c.store.ensures.keeps.left
+          (data_found c.args.machine.now.ram.registers sound c.from.result c.in-Ok-StoreRegister.address
+          (subst
+          (λ (machine : LabelledMachine). IsAt (data_register machine.ram.registers c.from.result) c.in-Ok-StoreRegister.address)
+          c.machine.view_is (sym c.data_address.ensures ∙ c.in-Ok-StoreRegister.is-0)))
+          sound;
+    }
 
 pub returns-in-Ok-RecallRegister-clause-taken : goal.returns-in-Ok-RecallRegister-clause-taken
 returns-in-Ok-RecallRegister-clause-taken g c = λ pages.

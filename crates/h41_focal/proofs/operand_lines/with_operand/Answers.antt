@@ -15,7 +15,6 @@ returns-in-Register g c =
           c.with_register.ensures.used;
       unchanged = c.with_register.ensures.unchanged;
       keeps = c.with_register.ensures.keeps;
-      left = c.with_register.ensures.left;
     }
 
 pub returns-in-Digits : goal.returns-in-Digits
@@ -30,7 +29,6 @@ returns-in-Digits g c =
           (c.with_digits.ensures.used c.args.pages.now);
       unchanged = c.with_digits.ensures.unchanged;
       keeps = c.with_digits.ensures.keeps;
-      left = c.with_digits.ensures.left;
     }
 
 pub returns-in-Flag : goal.returns-in-Flag
@@ -45,7 +43,6 @@ returns-in-Flag g c =
           c.with_flag.ensures.used;
       unchanged = c.with_flag.ensures.unchanged;
       keeps = c.with_flag.ensures.keeps;
-      left = c.with_flag.ensures.left;
     }
 
 pub returns-in-Label : goal.returns-in-Label
@@ -60,7 +57,6 @@ returns-in-Label g c =
           (c.be_silent.ensures.done 0 c.args.pages.now);
       unchanged = tt;
       keeps = c.be_silent.ensures.keeps;
-      left = c.be_silent.ensures.left;
     }
 
 pub be_silent-requires : goal.be_silent-requires

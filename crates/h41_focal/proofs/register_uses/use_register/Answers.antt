@@ -1,3 +1,4 @@
+use Rattle.h41_focal.proofs.LinesTaken.{rest_apart}
 use Rattle.h41_focal.proofs.register_uses.use_register.Goals as goal
 
 pub returns-in-Recall : goal.returns-in-Recall
@@ -5,8 +6,7 @@ returns-in-Recall g c =
     record {
       carried = rw c.in-Recall.is (c.recall.ensures.done c.args.pages.now);
       unchanged = tt;
-      keeps = c.recall.ensures.keeps;
-      left = λ apart. c.recall.ensures.left;
+      keeps = rest_apart _ _ _ c.recall.ensures.keeps;
     }
 
 pub returns-in-Store : goal.returns-in-Store
@@ -15,7 +15,6 @@ returns-in-Store g c =
       carried = rw c.in-Store.is (c.store.ensures.done c.args.pages.now);
       unchanged = tt;
       keeps = c.store.ensures.keeps;
-      left = c.store.ensures.left;
     }
 
 pub returns-in-Combine : goal.returns-in-Combine
@@ -24,7 +23,6 @@ returns-in-Combine g c =
       carried = rw c.in-Combine.is (c.combine.ensures.done c.args.pages.now);
       unchanged = tt;
       keeps = c.combine.ensures.keeps;
-      left = c.combine.ensures.left;
     }
 
 pub returns-in-CountUp : goal.returns-in-CountUp
@@ -33,7 +31,6 @@ returns-in-CountUp g c =
       carried = rw c.in-CountUp.is c.count_up.ensures.carried;
       unchanged = c.count_up.ensures.unchanged;
       keeps = c.count_up.ensures.keeps;
-      left = c.count_up.ensures.left;
     }
 
 pub returns-in-CountDown : goal.returns-in-CountDown
@@ -42,7 +39,6 @@ returns-in-CountDown g c =
       carried = rw c.in-CountDown.is c.count_down.ensures.carried;
       unchanged = c.count_down.ensures.unchanged;
       keeps = c.count_down.ensures.keeps;
-      left = c.count_down.ensures.left;
     }
 
 pub returns-in-View : goal.returns-in-View
@@ -50,8 +46,7 @@ returns-in-View g c =
     record {
       carried = rw c.in-View.is (c.view.ensures.done c.args.pages.now);
       unchanged = tt;
-      keeps = c.view.ensures.keeps;
-      left = λ apart. c.view.ensures.left;
+      keeps = rest_apart _ _ _ c.view.ensures.keeps;
     }
 
 pub returns-in-StoreAlpha : goal.returns-in-StoreAlpha
@@ -60,7 +55,6 @@ returns-in-StoreAlpha g c =
       carried = rw c.in-StoreAlpha.is (c.store_alpha.ensures.done c.args.pages.now);
       unchanged = tt;
       keeps = c.store_alpha.ensures.keeps;
-      left = c.store_alpha.ensures.left;
     }
 
 pub returns-in-RecallAlpha : goal.returns-in-RecallAlpha
@@ -68,8 +62,7 @@ returns-in-RecallAlpha g c =
     record {
       carried = rw c.in-RecallAlpha.is (c.recall_alpha.ensures.done c.args.pages.now);
       unchanged = tt;
-      keeps = c.recall_alpha.ensures.keeps;
-      left = λ apart. c.recall_alpha.ensures.left;
+      keeps = rest_apart _ _ _ c.recall_alpha.ensures.keeps;
     }
 
 pub returns-in-Exchange : goal.returns-in-Exchange
@@ -78,7 +71,6 @@ returns-in-Exchange g c =
       carried = rw c.in-Exchange.is (c.exchange_x.ensures.done c.args.pages.now);
       unchanged = tt;
       keeps = c.exchange_x.ensures.keeps;
-      left = c.exchange_x.ensures.left;
     }
 
 pub combine-requires : goal.combine-requires

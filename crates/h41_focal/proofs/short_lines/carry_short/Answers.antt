@@ -2,7 +2,7 @@ use Rattle.std.proofs.Common.{Ok}
 use Rattle.h41_codes.specs.declared.line.Line.TheVariants as lines
 use Rattle.h41_rows.specs.Profile.{is_left_out}
 use Rattle.h41_focal.proofs.Begun.{same_machine}
-use Rattle.h41_focal.proofs.LinesTaken.{unsearched}
+use Rattle.h41_focal.proofs.LinesTaken.{out_kept, rest_kept}
 use Rattle.h41_focal.proofs.OutsideCalls.{called_module, carries_whole}
 use Rattle.h41_positions.specs.LabelledMachine.{machine_of}
 use Rattle.h41_focal.proofs.short_lines.carry_short.Goals as goal
@@ -16,9 +16,7 @@ returns-in-LocalLabel g c =
           (machine_of c.args.machine.now) (machine_of c.be_silent.new.machine)
           (Ok c.be_silent.result) (c.be_silent.ensures.done 0 c.args.pages.now);
       unchanged = tt;
-      kept = c.be_silent.ensures.keeps.labels;
-      mark = c.be_silent.ensures.keeps.mark;
-      left = c.be_silent.ensures.left;
+      kept = rest_kept _ _ c.be_silent.ensures.keeps;
     })
 
 pub returns-in-Register : goal.returns-in-Register
@@ -30,9 +28,7 @@ returns-in-Register g c =
           (machine_of c.args.machine.now) (machine_of c.short.new.machine)
           c.short.result (c.short.ensures.taken c.args.pages.now);
       unchanged = same_machine c.args.machine.now c.short.new.machine c.short.result c.short.ensures.unchanged;
-      kept = c.short.ensures.keeps.labels;
-      mark = c.short.ensures.keeps.mark;
-      left = c.short.ensures.left;
+      kept = rest_kept _ _ c.short.ensures.keeps;
     })
 
 pub returns-in-Plain : goal.returns-in-Plain
@@ -44,9 +40,7 @@ returns-in-Plain g c =
           (machine_of c.args.machine.now) (machine_of c.plain_at_once.new.machine)
           c.plain_at_once.result (c.plain_at_once.ensures.taken);
       unchanged = same_machine c.args.machine.now c.plain_at_once.new.machine c.plain_at_once.result c.plain_at_once.ensures.unchanged;
-      kept = unsearched _ (is_left_out (lines.Plain c.in-Plain.function)) _ _ c.plain_at_once.ensures.keeps.labels;
-      mark = c.plain_at_once.ensures.keeps.mark;
-      left = c.plain_at_once.ensures.left;
+      kept = out_kept (is_left_out (lines.Plain c.in-Plain.function)) _ _ c.plain_at_once.ensures.keeps;
     })
 
 pub returns-in-WithOperand : goal.returns-in-WithOperand
@@ -58,11 +52,7 @@ returns-in-WithOperand g c =
           (machine_of c.args.machine.now) (machine_of c.with_operand.new.machine)
           c.with_operand.result (c.with_operand.ensures.taken);
       unchanged = same_machine c.args.machine.now c.with_operand.new.machine c.with_operand.result c.with_operand.ensures.unchanged;
-      kept =
-          unsearched _ (is_left_out (lines.WithOperand c.in-WithOperand.function c.in-WithOperand.operand))
-          _ _ c.with_operand.ensures.keeps.labels;
-      mark = c.with_operand.ensures.keeps.mark;
-      left = c.with_operand.ensures.left;
+      kept = out_kept (is_left_out (lines.WithOperand c.in-WithOperand.function c.in-WithOperand.operand)) _ _ c.with_operand.ensures.keeps;
     })
 
 pub returns-in-Module : goal.returns-in-Module
@@ -74,9 +64,7 @@ returns-in-Module g c =
           called_module c.args.pages.now c.args.origin c.in-Module.number c.in-Module.entry (machine_of c.args.machine.now)
           (machine_of c.call_module.new.machine) c.call_module.result done;
       unchanged = tt;
-      kept = c.call_module.ensures.keeps.labels;
-      mark = c.call_module.ensures.keeps.mark;
-      left = c.call_module.ensures.left;
+      kept = rest_kept _ _ c.call_module.ensures.keeps;
     })
 
 pub returns-in-BranchIndirect : goal.returns-in-BranchIndirect
@@ -86,8 +74,6 @@ returns-in-BranchIndirect g c =
       taken = c.indirect.ensures.taken;
       unchanged = c.indirect.ensures.unchanged;
       kept = c.indirect.ensures.kept;
-      mark = c.indirect.ensures.mark;
-      left = c.indirect.ensures.left;
     })
 
 pub returns-in-ShortGoTo : goal.returns-in-ShortGoTo
@@ -102,8 +88,6 @@ returns-in-ShortGoTo g c =
           (machine_of c.args.machine.now) (machine_of c.to_label.new.machine) (Ok c.to_label.result) done;
       unchanged = tt;
       kept = rw (c.new-label.ensures, c.number.ensures.value) at kept;
-      mark = c.to_label.ensures.mark;
-      left = c.to_label.ensures.left;
     })
 
 pub returns-in-BranchTo : goal.returns-in-BranchTo
@@ -117,8 +101,6 @@ returns-in-BranchTo g c =
           (Ok c.to_label-in-BranchTo.result) (c.to_label-in-BranchTo.ensures.done 0);
       unchanged = tt;
       kept = c.to_label-in-BranchTo.ensures.kept;
-      mark = c.to_label-in-BranchTo.ensures.mark;
-      left = c.to_label-in-BranchTo.ensures.left;
     })
 
 pub be_silent-requires : goal.be_silent-requires

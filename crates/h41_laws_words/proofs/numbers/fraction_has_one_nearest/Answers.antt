@@ -1,11 +1,5 @@
-use Rattle.h41_laws_words.proofs.Answering.{nearest}
+use Rattle.h41_laws_words.proofs.Answering.{has_one, nearest}
 use Rattle.h41_laws_words.proofs.numbers.fraction_has_one_nearest.Goals as goal
 
 pub returns : goal.returns
-returns c above below some =
-    let found = nearest above below some in
-    record {
-      answer = found.answer;
-      right = found.right;
-      only = λ other right. c.nearest_is_determined.ensures above below other found.answer right found.right;
-    }
+returns c above below some = has_one (nearest above below some) (c.nearest_is_determined.ensures above below)

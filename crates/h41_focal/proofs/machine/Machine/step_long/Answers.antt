@@ -62,8 +62,7 @@ pub returns : goal.returns
 returns g c =
     let takes =
     takes c.args.pages.now c.args.self.now c.begin-2.new.self c.carry_out.new.machine c.in_ok-line.line c.in_ok-line.next
-    c.carry_out.result c.begin-2.ensures.begun c.in_ok-line.ensures c.carry_out.ensures.unchanged c.carry_out.ensures.kept
-    c.carry_out.ensures.mark c.carry_out.ensures.left in
+    c.carry_out.result c.begin-2.ensures.begun c.in_ok-line.ensures c.carry_out.ensures.unchanged c.carry_out.ensures.kept in
     record {
       line =
           subst (λ (machine : Machine). Steps c.args.pages.now machine (machine_of c.carry_out.new.machine) c.carry_out.result)
@@ -75,7 +74,7 @@ returns g c =
       clear = takes.clear;
       right =
           c.kept_answers_stay_right.ensures.searching c.begin-2.new.self c.carry_out.new.machine _ c.begin-2.ensures.right
-          c.carry_out.ensures.kept c.carry_out.ensures.mark;
+          c.carry_out.ensures.kept.asks c.carry_out.ensures.kept.mark;
     }
 
 pub begin-requires : goal.begin-requires

@@ -66,7 +66,8 @@ found_at branch next returns lost None = lost
 found_at GoTo next returns lost (Some position) = Arrives position returns
 found_at Execute next returns lost (Some position) = Arrives position (with_return returns next)
 
--- If a name is not in memory, XEQ searches elsewhere, and GTO is an error (this project's choice).
+-- If no label in memory has the name, XEQ searches for a function, and GTO is an error (this
+-- project's choice).
 abbrev pub lost_name : Branch → List ℕ → Destination
 lost_name GoTo name = HasNoLabel
 lost_name Execute name = Seeks name

@@ -1,6 +1,6 @@
--- The execution of one line, with one rule for all rows. Flag 25 and the effect of errors are the
--- Owner's Handbook's rules. The refusals and their order, line 00, and the effect of an error of a
--- typed line are this project's choices.
+-- The execution of one line by itself, with one rule for all rows. Flag 25 and the effect of errors
+-- are the Owner's Handbook's rules. The refusals and their order, line 00, and the effect of an
+-- error of a typed line are this project's choices.
 use Rattle.std.specs.Prelude.{◌≡◌, ℕ, false, IsTrue, List, [], MatchBool, Option}
 use Rattle.std.specs.Prelude.{if◌then◌else◌, Some, None, Result, Ok, Err}
 use Rattle.h41_codes.specs.declared.line.Line.{Line}
@@ -116,8 +116,8 @@ Ends how old new answer (Runs position) carried =
       answer =
           answers.Runs;
     })
--- nothing changes if the calculator has to search elsewhere, or if the line to be skipped cannot be
--- read
+-- nothing changes by the line itself if the name has to be searched outside program memory, or if
+-- the line to be skipped cannot be read
 Ends how old new answer (Seeks name) carried =
     carried ≡ Ok (record { machine = old; answer = answers.Seeks name })
 Ends how old new answer HasNoLabel carried = EndsInError how old Nonexistent carried
@@ -161,8 +161,7 @@ AppliesTo pages how line machine (Err fault) carried = EndsInError how machine f
 AppliesTo pages how line machine (Ok meant) carried =
     Applies pages how (row_of line meant) (named_by meant) machine carried
 
--- A supported line is executed. A function of a module changes nothing, because the calculator
--- calls it.
+-- A supported line is executed. A line that calls a function of a module changes nothing by itself.
 abbrev pub CarriesOut : PageMap → Manner → Line → Machine → Result Left FocalRefusal → Type 0
 CarriesOut pages how (Module number entry) machine carried =
     carried ≡ Ok (record { machine = machine; answer = answers.Calls number entry })
@@ -175,7 +174,7 @@ TakesLine pages how line machine carried =
     MatchBool (is_left_out line) (carried ≡ Err NotInProfile)
     (CarriesOut pages how line machine carried)
 
--- A typed line is executed. It is refused as MemoryLost (15) if memory is not sound.
+-- A typed line is executed by itself. It is refused as MemoryLost (15) if memory is not sound.
 abbrev pub TypesLine : PageMap → Line → Machine → Result Left FocalRefusal → Type 0
 TypesLine pages line machine carried =
     MatchBool (is_sound machine.memory)
@@ -198,14 +197,14 @@ StandsAt pages memory at (Err refusal) =
 abbrev pub Stands : PageMap → Machine → Result (Line × Position) FocalRefusal → Type 0
 Stands pages machine standing = StandsAt pages machine.memory machine.focal.position standing
 
--- The line at the position is executed, or refused.
+-- The line at the position is executed by itself, or refused.
 abbrev pub StepsAs : PageMap → Machine → Result (Line × Position) FocalRefusal
     → Result Left FocalRefusal → Type 0
 StepsAs pages machine (Ok standing) carried =
     TakesLine pages (Stepped standing.1) standing.0 machine carried
 StepsAs pages machine (Err refusal) carried = carried ≡ Err refusal
 
--- The line at the position is executed.
+-- The line at the position is executed by itself.
 abbrev pub StepsLine : PageMap → Machine → Result Left FocalRefusal → Type 0
 StepsLine pages machine carried =
     (standing : Result (Line × Position) FocalRefusal)

@@ -1,6 +1,6 @@
--- A line with all that it calls: what is outside program memory is a function of a module, called
--- by its numbers or by its name, or a function of the calculator, called by its name. Modules are
--- searched before the calculator's own functions.
+-- The execution of a line with all that it calls. Outside program memory, a line can call a
+-- function of a module, by its numbers or by its name, or a function of the calculator, by its
+-- name. Modules are searched before the calculator's own functions.
 use Rattle.std.specs.Prelude.{◌≡◌, ℕ, Bool, true, false, ◌||◌, if◌then◌else◌, List, MatchBool}
 use Rattle.std.specs.Prelude.{Option, Some, None, Result, Ok, Err}
 use Rattle.h41_codes.specs.declared.functions.Function.{Function}
@@ -29,9 +29,9 @@ pub data LineSource : Type 0 where
   -- this line was typed
   Keys : Line → LineSource
 
--- The machine after a line whose function is executed elsewhere: a program goes on at the next
--- line, and stack lift is turned on if the line is one that does so. After a typed line nothing has
--- changed.
+-- The machine after a line that calls a function of a module, before this function is executed: a
+-- program has moved to the next line, and stack lift is on if the line turns it on. A typed line
+-- has changed nothing.
 abbrev pub with_line_passed : Manner → (lifts : Bool) → Machine → Machine
 with_line_passed (Stepped next) lifts machine =
     at_line next
@@ -76,9 +76,9 @@ CarriesNamed pages how (Some function) machine carried =
 CarriesNamed pages how None machine carried =
     carried ≡ Ok (left_by_fault how machine Nonexistent)
 
--- What has a name is called: if a module has such a function, the table entry of its two numbers,
--- otherwise a function of the calculator. XEQ with a name leaves stack lift unchanged (this
--- project's choice).
+-- XEQ with a name that is no label in memory: if a module has a function with this name, the table
+-- entry of its two numbers is called, otherwise the function of the calculator. XEQ with the name
+-- of a module's function leaves stack lift unchanged (this project's choice).
 abbrev pub CallsName : PageMap → Manner → Option (ℕ × ℕ) → List ℕ → Machine
     → Result Left FocalRefusal → Type 0
 CallsName pages how (Some numbers) name machine carried =
@@ -88,8 +88,9 @@ CallsName pages how None name machine carried =
     × IsNamed name function
     × CarriesNamed pages how function machine carried
 
--- How a line goes on, by its own answer: what it calls outside program memory is executed. An XROM
--- line turns stack lift on (this project's choice).
+-- What a line leaves with all that it calls, by its own answer, given what it leaves by itself. If
+-- it calls a function, what it left is replaced. An XROM line turns stack lift on (this project's
+-- choice).
 abbrev pub GoesOn : PageMap → Manner → Machine → Left → Answer → Result Left FocalRefusal → Type 0
 GoesOn pages how machine left (Calls number entry) carried =
     carried ≡ Ok (left_by_entry how true (entry_at pages number entry) machine)
@@ -97,7 +98,7 @@ GoesOn pages how machine left (Seeks name) carried =
     CallsName pages how (function_of_name pages name) name machine carried
 GoesOn pages how machine left answer carried = carried ≡ Ok left
 
--- How a line goes on after it was executed by itself; a refused line ends with its refusal.
+-- The same for a line that may be refused by itself.
 abbrev pub GoesOnFrom : PageMap → Manner → Machine → Result Left FocalRefusal
     → Result Left FocalRefusal → Type 0
 GoesOnFrom pages how machine (Ok left) carried = GoesOn pages how machine left left.answer carried

@@ -51,9 +51,9 @@ pub fn standing<const REGS: usize>(
     }
 }
 
-/// Executes a program line or a typed line with all that it calls, and returns its outcome. NotInProfile (13) if the bench does not support
-/// the line; BrokenProgram (14) if the line that a test or loop skips cannot be read. After these errors nothing has
-/// changed.
+/// Executes a program line or a typed line with all that it calls, and returns its outcome. NotInProfile (13) if the
+/// bench does not support the line or the function that it names; BrokenProgram (14) if the line that a test or loop
+/// skips cannot be read. After these errors nothing has changed.
 #[inline(never)]
 pub fn carry_out<const REGS: usize>(
     machine: &mut Machine<REGS>,

@@ -73,11 +73,12 @@ impl<const REGS: usize> Machine<REGS> {
         }
     }
 
-    /// Executes the program line at the position with all that it calls, and returns its outcome. What the line calls and
-    /// memory does not contain is searched in the modules, then among the calculator's own functions. The errors, in
-    /// this order: MemoryLost (15) if memory is not sound; BrokenProgram (14) if no line can be read at the position;
-    /// NotInProfile (13) if the bench does not support the line; BrokenProgram (14) if a line that a test or loop skips
-    /// cannot be read. After an error nothing has changed. The rules are in docs/LINES.md.
+    /// Executes the program line at the position with all that it calls, and returns its outcome. If the line names
+    /// something that is no label in memory, the name is searched in the modules, then among the calculator's own
+    /// functions. The errors, in this order: MemoryLost (15) if memory is not sound; BrokenProgram (14) if no line can be
+    /// read at the position; NotInProfile (13) if the bench does not support the line, or the function that it names;
+    /// BrokenProgram (14) if a line that a test or loop skips cannot be read. After an error nothing has changed. The
+    /// rules are in docs/LINES.md.
     #[inline(always)]
     pub fn step(&mut self, pages: &Pages) -> Result<LineOutcome, FocalRefusal>
         requires { AreRight self.old }
@@ -114,8 +115,8 @@ impl<const REGS: usize> Machine<REGS> {
     }
 
     /// Executes a typed line with all that it calls, and returns its outcome. The errors, in this order: MemoryLost (15)
-    /// if memory is not sound; NotInProfile (13) if the bench does not support the line. After an error nothing has
-    /// changed.
+    /// if memory is not sound; NotInProfile (13) if the bench does not support the line, or the function that it names.
+    /// After an error nothing has changed.
     pub fn key(&mut self, pages: &Pages, line: &Line) -> Result<LineOutcome, FocalRefusal>
         requires { AreRight self.old }
         ensures line { Types pages.now line.now (machine_of self.old) (machine_of self.new) result }

@@ -71,8 +71,8 @@ pub fn number_standing<const REGS: usize>(machine: &Machine<REGS>) -> Option<(Te
 }
 
 /// Executes a short line (at most three bytes, without a text) with all that it calls, and returns its outcome.
-/// NotInProfile (13) if the bench does not support the line, BrokenProgram (14) if a line to be skipped cannot be read.
-/// After these errors nothing has changed.
+/// NotInProfile (13) if the bench does not support the line, or the function that it names; BrokenProgram (14) if a line
+/// to be skipped cannot be read. After these errors nothing has changed.
 #[inline(always)]
 pub fn carry_short<const REGS: usize>(
     machine: &mut Machine<REGS>,

@@ -1,4 +1,4 @@
--- A line has an end, even if it calls something outside memory.
+-- A line has exactly one end with all that it calls.
 use Rattle.std.specs.Prelude.{ℕ, List}
 use Rattle.h41_positions.specs.FocalState.{Machine}
 use Rattle.h41_pages.specs.PageMap.{PageMap}

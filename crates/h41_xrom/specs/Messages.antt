@@ -31,7 +31,8 @@ message_after answers.Stopped message = message
 message_after answers.TurnedOff message = message
 message_after (answers.Answered holds) message = Some (test_text holds)
 message_after answers.Runs message = message
--- A line whose function is executed elsewhere does not change it.
+-- A line that starts a function in microcode does not change it. No line with all that it calls has
+-- one of the other two answers.
 message_after (answers.Begins address) message = message
 message_after (answers.Calls number entry) message = message
 message_after (answers.Seeks name) message = message

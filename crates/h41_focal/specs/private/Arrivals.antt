@@ -33,14 +33,14 @@ answer_at origin GoTo = outcomes.Done
 answer_at (Program next) Execute = outcomes.Done
 answer_at Typed Execute = outcomes.Runs
 
--- The state after a line whose function is executed elsewhere.
+-- The state after a line that calls a function of a module, before this function is executed.
 abbrev pub passed_state : Origin → (lifts : Bool) → FocalState → FocalState
 passed_state (Program next) lifts focal =
     record (at_position next focal) { lift = lifts || focal.lift }
 passed_state Typed lifts focal = focal
 
--- The state after a call of a module's function: a function in microcode runs elsewhere, a
--- keystroke program is called.
+-- The state after a line that calls a module's function: a keystroke program is called, and a
+-- function in microcode still has to be started.
 abbrev pub state_in_entry : Origin → (lifts : Bool) → Entry → FocalState → FocalState
 state_in_entry origin lifts entry focal =
     if entry.keystroke then

@@ -21,8 +21,7 @@ module _ (straight : WordIsExecuted) (leaves : RunsLeaveWhole) (increment : Incr
     (returns : is_closed (newest_return s.processor) ≡ false) (base : s.processor.base ≡ Hexadecimal) where
   -- The state at an address, with a C and return addresses, and the carry clear.
   abbrev with_c : ℕ → List ℕ → List ℕ → Nut
-  with_c address c addresses =
-      record s { processor = record s.processor { c = c; carry = false; pc = address; returns = addresses } }
+  with_c address c addresses = record s { processor = record s.processor { c = c; carry = false; pc = address; returns = addresses } }
 
   -- After the call of a function that adds 1.
   record HasCalledFrom (back : ℕ) (c addresses : List ℕ) (t : Nut) : Type 0 where
@@ -44,9 +43,7 @@ module _ (straight : WordIsExecuted) (leaves : RunsLeaveWhole) (increment : Incr
       (λ t is. record {
         whole = is.0;
         after = t.processor.c;
-        is =
-            only_c_known u t false back (take 3 addresses ++ 0 ∷ []) is.1.1.only is.1.1.carry (is.1.0.address ∙ is_back)
-            is.1.0.returns;
+        is = only_c_known u t false back (take 3 addresses ++ 0 ∷ []) is.1.1.only is.1.1.carry (is.1.0.address ∙ is_back) is.1.0.returns;
         counted = is.1.1.counted;
         others = is.1.1.others;
       })
@@ -85,8 +82,6 @@ module _ (straight : WordIsExecuted) (leaves : RunsLeaveWhole) (increment : Incr
 
 pub add_two : WordIsExecuted → RunsLeaveWhole → IncrementReturns → AddTwoReturns
 add_two straight leaves increment s whole next has has_other returns size carry base less =
-    let here : record s { processor = record s.processor { pc = 0x8000; carry = false } } ≡ s =
-    ap (λ address. record s { processor = record s.processor { pc = address; carry = false } }) (sym next)
-    ∙ ap (λ other. record s { processor = record s.processor { carry = other } }) (sym carry) in
+    let here : record s { processor = record s.processor { pc = 0x8000; carry = false } } ≡ s = rw (← next, ← carry) refl in
     subst (λ t. Takes 7 t (HasAddedTwo s)) here
     (proved straight leaves increment s has has_other returns base (subst IsWhole (sym here) whole) size less)

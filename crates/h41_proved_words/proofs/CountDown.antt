@@ -55,13 +55,7 @@ module _ (straight : WordIsExecuted) (arithmetic : ArithmeticIsExecuted) (of_num
         takes_step 1 _ _ _ one
         (takes_step 0 _ _ _ (return_taken straight _ one.whole NoCarry (has 1 (omega arith)) refl returns)
         (takes_none _ (IsCountedDown s)
-        (record {
-          returned = record { address = refl; returns = refl };
-          counted = zero_number at_a_place 16 0 2 c (omega arith) test;
-          others = others;
-          carry = refl;
-          only = refl;
-        })))
+        (assumption (zero_number at_a_place 16 0 2 c (omega arith) test))))
 
     passed : is_nonzero c 0 2 ≡ true → StepsTo (with_c 0x8001 c true) (with_c 0x8002 c false)
     unfolding words.number_of
@@ -84,8 +78,7 @@ module _ (straight : WordIsExecuted) (arithmetic : ArithmeticIsExecuted) (of_num
     round left test counted =
         let less = less_one test in
         let z = less.0 in
-        let number =
-        decremented 16 0 2 c c z less.1 (omega arith) (omega arith) (inl (refl, whole.processor.abc.c)) of_numbers less.2 in
+        let number = decremented 16 0 2 c c z less.1 (omega arith) (omega arith) (inl (refl, whole.processor.abc.c)) of_numbers less.2 in
         let small = exponent_below z less.2.register in
         let more = left_without_borrow less.1 (number_of 16 z 0 2) (16 ^ 3) (number_of 16 c 0 2) number (omega (arith, small))
         (omega (arith, counted)) in

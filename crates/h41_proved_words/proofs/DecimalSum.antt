@@ -65,13 +65,7 @@ module _ (straight : WordIsExecuted) (arithmetic : ArithmeticIsExecuted) (of_num
       by_step 1 _ _ _ one
       (by_step 0 _ _ _ (returned straight _ one.whole (has 6 (omega arith)) returns)
       (at_end _ (IsDecimalSum s)
-      (record {
-        returned = record { address = refl; returns = refl };
-        sum = sum;
-        carry = refl;
-        base = refl;
-        only = refl;
-      })))
+      assumption))
 
   -- The jump, which is taken if there is no carry, and SETF 0.
   rest : (z : List ℕ) (carry : Bool) → IsWhole (there 0x8003 z carry Decimal clear)

@@ -1,4 +1,4 @@
-use Rattle.std.proofs.Common.{◌≡◌, ℕ, ◌<◌, Bool, true, false, List, length, slice_index, rules, refl, ap, subst, sym, ◌∙◌, arith}
+use Rattle.std.proofs.Common.{◌≡◌, ℕ, ◌<◌, Bool, true, false, List, length, slice_index, refl, ap, subst, sym, ◌∙◌, arith}
 use Rattle.std.specs.Bool.{then_some}
 use Rattle.h41_arith.specs.DigitRule.{SumInto, zeros}
 use Rattle.h41_fields.specs.Field.{first_place, last_place, places, register_places}
@@ -16,6 +16,7 @@ use Rattle.h41_words.specs.declared.operation.Operation.TheVariants.{IncrementC}
 use Rattle.h41_words.specs.declared.rows.Row.TheVariants.{Return}
 use Rattle.h41_reasoning.specs.Runs.{HasWords, Reaches}
 use Rattle.h41_reasoning.specs.WordRuns.{ArithmeticIsExecuted, StepsTo, WordIsExecuted}
+use Rattle.h41_reasoning.proofs.Changes.{word_digit_0, word_digit_1, word_digit_2, word_keeps}
 use Rattle.h41_reasoning.proofs.Rounds.{at_end, by_step, into_c}
 use Rattle.h41_reasoning.proofs.Digits.{base_at_least, exponent_number, known_digit}
 use Rattle.h41_reasoning.proofs.TwoWords.{load_immediate}
@@ -54,38 +55,25 @@ module _ (straight : WordIsExecuted) (arithmetic : ArithmeticIsExecuted) (s : Nu
   c_size : length s.processor.c ≡ 14
   c_size = whole.processor.abc.c.size
 
-  -- The digits that were loaded.
-  digit_0 : slice_index loaded.processor.c 0 ≡ 3
-  digit_0 = search (rules, c_size)
-
-  digit_1 : slice_index loaded.processor.c 1 ≡ 2
-  digit_1 = search (rules, c_size)
-
-  digit_2 : slice_index loaded.processor.c 2 ≡ 1
-  digit_2 = search (rules, c_size)
-
-  beside_word : (place : ℕ) → 2 < place → slice_index loaded.processor.c place ≡ slice_index s.processor.c place
-  beside_word place more = search rules
-
   module _ (z : List ℕ) (carry : Bool)
       (sum : SumInto (base_number s.processor.base) loaded.processor.c loaded.processor.c zeros true 0 2 z carry) where
     first : (slice_index z 0 ≡ 4) × (slice_index sum.digits.carries 1 ≡ 0)
     first =
-        known_digit _ _ _ _ _ _ 3 0 1 (sum.digits.places 0 (omega arith) (omega arith)) digit_0 refl sum.digits.first
-        (omega (arith, base_at_least s.processor.base))
+        known_digit _ _ _ _ _ _ 3 0 1 (sum.digits.places 0 (omega arith) (omega arith))
+        (word_digit_0 s.processor.c 3 2 1 c_size) refl sum.digits.first (omega (arith, base_at_least s.processor.base))
 
     second : (slice_index z 1 ≡ 2) × (slice_index sum.digits.carries 2 ≡ 0)
     second =
-        known_digit _ _ _ _ _ _ 2 0 0 (sum.digits.places 1 (omega arith) (omega arith)) digit_1 refl first.1
-        (omega (arith, base_at_least s.processor.base))
+        known_digit _ _ _ _ _ _ 2 0 0 (sum.digits.places 1 (omega arith) (omega arith))
+        (word_digit_1 s.processor.c 3 2 1 c_size) refl first.1 (omega (arith, base_at_least s.processor.base))
 
     third : slice_index z 2 ≡ 1
     third =
-        (known_digit _ _ _ _ _ _ 1 0 0 (sum.digits.places 2 (omega arith) (omega arith)) digit_2 refl second.1
-        (omega (arith, base_at_least s.processor.base))).0
+        (known_digit _ _ _ _ _ _ 1 0 0 (sum.digits.places 2 (omega arith) (omega arith))
+        (word_digit_2 s.processor.c 3 2 1 c_size) refl second.1 (omega (arith, base_at_least s.processor.base))).0
 
     above : (place : ℕ) → 2 < place → slice_index z place ≡ slice_index s.processor.c place
-    above place more = sum.outside.above place more ∙ beside_word place more
+    above place more = sum.outside.above place more ∙ (word_keeps s.processor.c 3 2 1 c_size).above place more
 
     property : HasCounted (at 0x8000 s) (state_after Return (counted z carry))
     property = record {

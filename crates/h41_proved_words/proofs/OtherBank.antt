@@ -103,18 +103,10 @@ module _ (straight : WordIsExecuted) (arithmetic : ArithmeticIsExecuted) (of_num
       (returned straight (there 0x8002 s.pages third.0 (take 3 s.processor.returns ++ 0 ∷ [])) fifth.whole
       (one.caller 2 (omega arith)) (ap is_closed kept.1 ∙ returns))
       (takes_none _ (HasAddedThere s)
-      (record {
-        returned = record { address = kept.1; returns = kept.2 };
-        counted = third.2;
-        others = third.1.outside;
-        carry = refl;
-        only = refl;
-      })))))))
+      (assumption (kept, third))))))))
 
 pub other_bank : WordIsExecuted → ArithmeticIsExecuted → SumIsOfNumbers → OtherBankReturns
 other_bank straight arithmetic of_numbers s whole next one two returns size carry base less =
-    let here : record s { processor = record s.processor { pc = 0x8000; carry = false } } ≡ s =
-    ap (λ address. record s { processor = record s.processor { pc = address; carry = false } }) (sym next)
-    ∙ ap (λ other. record s { processor = record s.processor { carry = other } }) (sym carry) in
+    let here : record s { processor = record s.processor { pc = 0x8000; carry = false } } ≡ s = rw (← next, ← carry) refl in
     subst (λ t. Takes 6 t (HasAddedThere s)) here
     (proved straight arithmetic of_numbers s one two base (subst IsWhole (sym here) whole) size returns less)

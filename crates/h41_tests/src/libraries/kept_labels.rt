@@ -9,7 +9,7 @@ use h41_focal::laws::kept_answers_stay_right;
 use h41_focal::{Focal, Machine};
 use h41_labels::LabelCache;
 use h41_pages::Pages;
-use h41_positions::Position;
+use h41_positions::{Position, next};
 use h41_program::load;
 use h41_ram::{Ram, StatusRegister};
 use std::marker::Model;
@@ -82,10 +82,20 @@ impl Kept {
         self.writes(address, register);
     }
 
-    /// Moves the program on to the next line, as after a function in microcode. Returns whether this was not refused.
+    /// Moves the program on to the next line, as a line does that calls a function in microcode. Returns whether there is
+    /// a line at the position.
     fn passes(&mut self, pages: &Pages) -> bool {
-        kept_answers_stay_right();
-        self.machine.pass(pages).is_ok()
+        let Machine { ram, focal } = &mut self.machine;
+        if !ram.is_sound() {
+            return false;
+        }
+        match next(ram, pages, focal.position) {
+            Ok(position) => {
+                focal.go_to(position);
+                true
+            }
+            Err(_) => false,
+        }
     }
 
     /// Returns whether the calculator's position is this byte of program memory.

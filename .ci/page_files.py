@@ -65,6 +65,7 @@ def files(page: Page) -> None:
     row("a program goes out as text", export(page, "text")[1], wanted)
     row("a program goes out as bytes", export(page, "raw")[1], read("examples/programs/bisection.raw"))
     files_of_modules(page)
+    programs_of_a_page(page)
     wrong_files(page)
     same_deck("files", page)
     refused_files(page)
@@ -84,6 +85,16 @@ def files_of_modules(page: Page) -> None:
     row("an image comes in", answer["state"]["pages"], ["8", "9", "A"])
     row("the names of its pages", page.ask(do="pages")["pages"], [["8", "1", "first.asm"], ["9", "1", "first.asm"], ["A", "1", "first.rom"]])
     row("a source goes out", b"NAME" in export(page, "source", "A")[1], True)
+
+
+def programs_of_a_page(page: Page) -> None:
+    """The programs of a page go out instead of those in memory, and a label is refused where tools/export refuses it."""
+    page.give(tool("import", ["--module", "6", "--page", "B", "examples/programs/bisection.raw"]).stdout.decode() + "program\nLBL 02\nend\n")
+    for kind in ("text", "raw"):
+        wanted = tool("export", [kind, "--page", "B", "-", "-"], given=page.deck())
+        row(f"the programs of a page go out as {kind}", (export(page, kind, "B"), wanted.returncode), ((200, wanted.stdout), 0))
+    status, _, body = page.request("POST", "export", json.dumps({"kind": "rom", "page": "B", "label": "BIS"}))
+    row("a label of an image", (status, b"--label" in body), (409, True))
 
 
 # Names of files that are refused together, with the message.

@@ -411,17 +411,17 @@ class Answers:
             return {"told": told, "good": True}
 
     def take_out(self, asked: Request) -> bytes:
-        """Exports a page or the programs with tools/export. Returns the bytes of the file."""
+        """Exports a page, its programs or the programs in memory with tools/export. Returns the bytes of the file."""
         kind, page, label = asked["kind"], asked.get("page") or "", asked.get("label") or ""
         if kind not in ("rom", "source", "raw", "text") or page and page not in list(PAGES):
             raise ValueError((kind, page))
         with self.lock:
-            if kind in ("raw", "text") and self.desk.has_no_program():
-                raise Failure("no program is in memory: type, load or import one, then export it")
             if kind in ("rom", "source") and not page:
                 page = next(iter(self.desk.views["pages"]), "8")
-            deck = self.desk.leaves(kind, page)
-        words = ["--page", page] if kind in ("rom", "source") else [f"--label={label}"] if label else []
+            if not page and self.desk.has_no_program():
+                raise Failure("no program is in memory: type, load or import one, then export it")
+            deck = self.desk.leaves(page)
+        words = [*(["--page", page] if page else []), *([f"--label={label}"] if label else [])]
         ran = tool("export", [kind, *words, "-", "-"], None, deck)
         if ran.returncode:
             # The page gives the deck, which has no name.

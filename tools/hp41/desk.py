@@ -483,9 +483,9 @@ class Desk:
         """Returns whether memory has no line of a program but `.END.`."""
         return [line[5:] for line in self.views["lines"]] == [".END."]
 
-    def leaves(self, kind: str, page: str) -> bytes:
-        """Returns a deck for tools/export, with the image of a page or with the bytes of the programs."""
-        if kind in ("rom", "source"):
+    def leaves(self, page: str) -> bytes:
+        """Returns a deck for tools/export, with the image of a page, or without a page with the bytes of the programs in memory."""
+        if page:
             image, = self.bench.ask_all([b"show image %s" % page.encode()])
             if refusal_of(image):
                 raise Failure(f"page {page}: {image[-1]}: plug a module there first")

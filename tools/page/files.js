@@ -57,6 +57,7 @@ async function openDeck(file) {
 
 async function takeOut() {
   const kind = by("kind").value;
+  tellOfFiles("…", true);
   const ends = { raw: "raw", text: "lines", rom: "rom", source: "asm" };
   const reply = await fetched("export", { kind, page: by("page-out").value, label: by("label").value });
   const link = make("a", { href: addressOf(await reply.blob()), download: `bench.${ends[kind]}` });

@@ -78,6 +78,7 @@ pub fn two_byte_line(first: u8, second: u8) -> Option<Line>
 
 /// Returns the program line that is spelled by one byte: the null, a label 00 to 14, `RCL` or `STO` of a register 00 to
 /// 15, or a function without an operand.
+#[inline(always)]
 pub(crate) fn one_byte(first: u8) -> Line
     requires { IsOneByte first }
     ensures spelled { spelling result ≡ first ∷ [] }

@@ -1,5 +1,6 @@
 mod Apart
 mod Begun
+mod ByItself
 mod Targets
 mod OutsideCalls
 mod LabelsMet

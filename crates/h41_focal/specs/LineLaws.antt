@@ -7,7 +7,7 @@ use Rattle.h41_codes.specs.declared.line.Line.TheVariants.{Module}
 use Rattle.h41_focal.specs.LineStep.{Left}
 use Rattle.h41_positions.specs.FocalState.{Machine}
 use Rattle.h41_focal.specs.LineStep.{StepsLine, TypesLine}
-use Rattle.h41_focal.specs.OutsideCalls.{CarriesLine, IsNamed, LineSource}
+use Rattle.h41_focal.specs.OutsideCalls.{CarriesLine, IsNamed, Keys, LineSource, Program}
 use Rattle.h41_focal.specs.Outcomes.{calls_outside}
 use Rattle.h41_focal.specs.declared.refusal.FocalRefusal.{FocalRefusal}
 use Rattle.h41_pages.specs.PageMap.{PageMap}
@@ -107,3 +107,22 @@ NextIsHere =
     → GoesToNext line → IsAt pages line machine
     → StepsLine pages machine (Ok left)
     → calls_outside left.answer ≡ false
+
+-- A line calls nothing outside program memory, or is refused.
+abbrev pub CallsNothing : Result Left FocalRefusal → Type 0
+CallsNothing carried = IfOk carried (λ left. calls_outside left.answer ≡ false)
+
+-- What the line at the position leaves by itself is what it leaves with all that it calls, if it
+-- calls nothing outside program memory.
+abbrev pub SteppedByItself : Type 0
+SteppedByItself =
+    (pages : PageMap) (machine : Machine) (carried : Result Left FocalRefusal)
+    → CallsNothing carried
+    → StepsLine pages machine carried → CarriesLine Program pages machine carried
+
+-- The same for a typed line.
+abbrev pub TypedByItself : Type 0
+TypedByItself =
+    (pages : PageMap) (line : Line) (machine : Machine) (carried : Result Left FocalRefusal)
+    → CallsNothing carried
+    → TypesLine pages line machine carried → CarriesLine (Keys line) pages machine carried

@@ -24,8 +24,9 @@ use h41_rows::LineFault;
 
 /// Executes `GTO` (`Branch::GoTo`) or `XEQ` (`Branch::Execute`) with a local label. The search begins after the line,
 /// or for a typed line at the position. If the program has no such label, the error is NONEXISTENT; then the outcome is
-/// `Failed`, or `Done` if flag 25 was set.
-#[inline(always)]
+/// `Failed`, or `Done` if flag 25 was set. This is a function of its own so that the machine code for other short lines
+/// remains small.
+#[inline(never)]
 pub fn to_label<const REGS: usize>(
     machine: &mut Machine<REGS>,
     pages: &Pages,

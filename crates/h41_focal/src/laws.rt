@@ -4,8 +4,8 @@
 ghost use Rattle.std.specs.Prelude.{◌≡◌, ◌≤◌, length};
 ghost use Rattle.h41_focal.specs.LabelLaws.{KeepingStaysRight, SearchingStaysRight};
 ghost use Rattle.h41_focal.specs.LineLaws.{LineIsDetermined, NameIsDetermined, NextIsHere};
-ghost use Rattle.h41_focal.specs.LineLaws.{StepIsDetermined, SteppedCanBeTyped, TypedAsStepped};
-ghost use Rattle.h41_focal.specs.LineLaws.{TypedIsDetermined};
+ghost use Rattle.h41_focal.specs.LineLaws.{StepIsDetermined, SteppedByItself, SteppedCanBeTyped};
+ghost use Rattle.h41_focal.specs.LineLaws.{TypedAsStepped, TypedByItself, TypedIsDetermined};
 
 use h41_labels::laws::{answers_stay_right, kept_answers_depend_on_the_program};
 use h41_positions::Focal;
@@ -35,6 +35,13 @@ pub fn line_is_determined()
     searches_are_determined();
     line_text_round_trip();
 }
+
+/// States that what a line leaves by itself is what it leaves with all that it calls, if it calls nothing outside
+/// program memory. Therefore what is proved of lines by themselves holds for the calculator.
+pub fn line_by_itself()
+    ensures stepped { SteppedByItself }
+    ensures typed { TypedByItself }
+{}
 
 /// States that lines which continue at the next line leave the same memory and the same stack lift, whether they are
 /// typed or stepped. Lines that can be stepped in this way can also be typed, and call nothing outside program memory.

@@ -15,18 +15,19 @@ ghost use Rattle.h41_rows.specs.Computing.{meant_by};
 ghost use Rattle.h41_ram.specs.RegisterMap.{is_sound};
 
 use crate::alpha_lines::text_line;
-use crate::calls::call_module;
 use crate::course::fail;
-use crate::functions::plain;
 use crate::labels::{go_back, to_label, to_name};
 use crate::machine::Machine;
-use crate::operand_lines::{is_parameter_out, with_operand};
+use crate::operand_lines::is_parameter_out;
 use crate::origin::Origin;
 use crate::outcome::LineOutcome;
 use crate::refusal::FocalRefusal;
 use crate::register_lines::{recall, store};
+use crate::short_lines::carry_short;
 use crate::stack_lines::{be_silent, do_nothing, number_line};
-use h41_codes::{Branch, Line, NameFunction, Parameter, RegisterFunction, ShortRegister, Text};
+use h41_codes::{
+    Branch, Line, NameFunction, Parameter, RegisterFunction, ShortLine, ShortRegister, Text,
+};
 use h41_pages::Pages;
 use h41_positions::{Position, line_and_next};
 use h41_ram::Ram;
@@ -68,37 +69,26 @@ pub fn carry_out<const REGS: usize>(
     ensures unchanged { OnErr result (machine_of machine.new ≡ machine_of machine.old) }
     ensures kept { AsksOf origin line.now machine.old machine.new }
 {
-    match line {
-        Line::Null => Ok(do_nothing(machine, origin)),
-        Line::LocalLabel(_) => Ok(be_silent(machine, origin)),
-        Line::GlobalLabel(_, _, _) => Ok(be_silent(machine, origin)),
-        Line::Number(number) => Ok(number_line(machine, origin, written(number))),
-        Line::Named(function, name) => named(machine, pages, origin, *function, *name),
-        Line::Register(function, register) => short(machine, origin, *function, *register),
-        Line::Plain(function) => plain(machine, pages, origin, *function),
-        Line::WithOperand(function, operand) => with_operand(
-            machine, pages, origin, *function, operand,
-        ),
-        Line::Module(number, entry) => Ok(call_module(machine, pages, origin, *number, *entry)),
-        Line::BranchIndirect(branch, register) => indirect(
-            machine, pages, origin, *branch, *register,
-        ),
-        Line::ShortGoTo(label, _) => {
-            Ok(to_label(
-                machine,
-                pages,
-                origin,
-                Branch::GoTo,
-                Parameter::new(label.number()),
-            ))
+    let short = match line {
+        Line::Null => return Ok(do_nothing(machine, origin)),
+        Line::GlobalLabel(_, _, _) => return Ok(be_silent(machine, origin)),
+        Line::Number(number) => return Ok(number_line(machine, origin, written(number))),
+        Line::Named(function, name) => return named(machine, pages, origin, *function, *name),
+        Line::End(_, _) => return Ok(go_back(machine, pages, origin)),
+        Line::FinalEnd(_, _) => return Ok(go_back(machine, pages, origin)),
+        Line::Text(text) => return Ok(text_line(machine, origin, text)),
+        Line::LocalLabel(label) => ShortLine::LocalLabel(*label),
+        Line::Register(function, register) => ShortLine::Register(*function, *register),
+        Line::Plain(function) => ShortLine::Plain(*function),
+        Line::WithOperand(function, operand) => ShortLine::WithOperand(*function, *operand),
+        Line::Module(number, entry) => ShortLine::Module(*number, *entry),
+        Line::BranchIndirect(branch, register) => ShortLine::BranchIndirect(*branch, *register),
+        Line::ShortGoTo(label, distance) => ShortLine::ShortGoTo(*label, *distance),
+        Line::BranchTo(branch, distance, backwards, label) => {
+            ShortLine::BranchTo(*branch, *distance, *backwards, *label)
         }
-        Line::End(_, _) => Ok(go_back(machine, pages, origin)),
-        Line::FinalEnd(_, _) => Ok(go_back(machine, pages, origin)),
-        Line::BranchTo(branch, _, _, label) => Ok(to_label(
-            machine, pages, origin, *branch, *label,
-        )),
-        Line::Text(text) => Ok(text_line(machine, origin, text)),
-    }
+    };
+    carry_short(machine, pages, origin, short)
 }
 
 /// Executes `GTO` or `XEQ` with a name. NotInProfile (13) for `W`, the line with a name whose code has no function, and

@@ -26,8 +26,9 @@ use h41_rows::{digit_of, flag_of, register_of};
 
 /// Executes a function with an operand, and returns its outcome. NotInProfile (13) if the bench does not
 /// support the function or the register of the operand; BrokenProgram (14) if the line that a test or loop skips cannot
-/// be read. After these errors nothing has changed.
-#[inline(always)]
+/// be read. After these errors nothing has changed. This is a function of its own so that the machine code for other
+/// short lines remains small.
+#[inline(never)]
 pub fn with_operand<const REGS: usize>(
     machine: &mut Machine<REGS>,
     pages: &Pages,

@@ -323,6 +323,7 @@ impl<const REGS: usize> Calculator<REGS> {
         ensures cache { self.new.cache ≡ self.old.cache }
     {
         match outcome {
+            LineOutcome::Done => {}
             LineOutcome::Begins(address) => self.enter(address),
             outcome => {
                 self.mode = mode_after_line(self.mode, &outcome);
@@ -332,8 +333,8 @@ impl<const REGS: usize> Calculator<REGS> {
     }
 
     /// Shows the result of an executed line in the display: a text, an error or the answer of a test as the message.
-    /// `OFF` turns the display off.
-    #[inline(always)]
+    /// `OFF` turns the display off. Few lines of a program show a result, so this is not compiled into the loop over lines.
+    #[inline(never)]
     fn show(&mut self, outcome: LineOutcome)
         ensures state { self.new.state
             ≡ with_shown (answer_of self.old.state.nut.ram outcome) self.old.state }

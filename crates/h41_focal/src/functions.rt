@@ -79,6 +79,7 @@ pub fn plain_at_once<const REGS: usize>(
         Some(FunctionWork::OfYAndX(value)) => Ok(of_y_and_x(machine, origin, value)),
         Some(FunctionWork::OfX(value)) => Ok(of_x(machine, origin, value)),
         Some(FunctionWork::Move(movement)) => Ok(move_stack(machine, origin, movement)),
+        Some(FunctionWork::Return) => Ok(go_back(machine, pages, origin)),
         _ => plain(machine, pages, origin, function),
     }
 }

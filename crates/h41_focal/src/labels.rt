@@ -24,9 +24,8 @@ use h41_rows::LineFault;
 
 /// Executes `GTO` (`Branch::GoTo`) or `XEQ` (`Branch::Execute`) with a local label. The search begins after the line,
 /// or for a typed line at the position. If the program has no such label, the error is NONEXISTENT; then the outcome is
-/// `Failed`, or `Done` if flag 25 was set. This is a function of its own so that the machine code for other short lines
-/// remains small.
-#[inline(never)]
+/// `Failed`, or `Done` if flag 25 was set.
+#[inline(always)]
 pub fn to_label<const REGS: usize>(
     machine: &mut Machine<REGS>,
     pages: &Pages,
@@ -112,6 +111,7 @@ pub fn arrive(focal: &mut Focal, origin: Origin, branch: Branch, position: Posit
 /// Executes `RTN`, `END` or `.END.`: moves the position to the newest return address and removes it. If there is none,
 /// or if the line is typed, moves to line 00 of the program and clears all return addresses. The outcome is `Stopped`
 /// if a program has no return address.
+#[inline(always)]
 pub fn go_back<const REGS: usize>(
     machine: &mut Machine<REGS>,
     pages: &Pages,
@@ -134,6 +134,7 @@ pub fn go_back<const REGS: usize>(
 
 /// Moves the position to the newest return address and removes it. If there is none, moves to line 00 of the program,
 /// and the outcome is `Stopped`.
+#[inline(always)]
 fn return_from<const REGS: usize>(machine: &mut Machine<REGS>, pages: &Pages) -> LineOutcome
     requires { IsTrue (is_sound machine.old.ram.registers) }
     ensures done { ReturnsFrom pages.now (machine_of machine.old) (machine_of machine.new) result }

@@ -34,19 +34,19 @@ pub fn with_operand<const REGS: usize>(
     pages: &Pages,
     origin: Origin,
     function: ParameterFunction,
-    operand: &Operand,
+    operand: Operand,
 ) -> Result<LineOutcome, FocalRefusal>
     requires { IsTrue (is_sound machine.old.ram.registers) }
-    ensures taken { TakenBy pages.now origin function operand.now (machine_of machine.old)
+    ensures taken { TakenBy pages.now origin function operand (machine_of machine.old)
         (machine_of machine.new) result }
     ensures unchanged { OnErr result (machine.new ≡ machine.old) }
     ensures keeps { KeepsRest machine.old machine.new }
 {
-    if is_left_out(function, operand) {
+    if is_left_out(function, &operand) {
         return Err(FocalRefusal::NotInProfile);
     }
     match use_of(function) {
-        OperandUse::Register(taken) => with_register(machine, pages, origin, taken, operand),
+        OperandUse::Register(taken) => with_register(machine, pages, origin, taken, &operand),
         OperandUse::Digits(taken) => with_digits(machine, origin, taken, operand),
         OperandUse::Flag(taken) => with_flag(machine, pages, origin, taken, operand),
         OperandUse::Label => Ok(be_silent(machine, origin)),
@@ -108,15 +108,15 @@ fn with_digits<const REGS: usize>(
     machine: &mut Machine<REGS>,
     origin: Origin,
     taken: DigitsUse,
-    operand: &Operand,
+    operand: Operand,
 ) -> Result<LineOutcome, FocalRefusal>
-    requires { is_operand_left_out operand.now ≡ false }
-    ensures used { (pages : PageMap) → UsesDigits pages origin taken operand.now
+    requires { is_operand_left_out operand ≡ false }
+    ensures used { (pages : PageMap) → UsesDigits pages origin taken operand
         (machine_of machine.old) (machine_of machine.new) result }
     ensures unchanged { OnErr result (machine.new ≡ machine.old) }
     ensures keeps { KeepsRest machine.old machine.new }
 {
-    match digit_of(&machine.ram, operand) {
+    match digit_of(&machine.ram, &operand) {
         Ok(digits) => Ok(use_digits(machine, origin, taken, digits)),
         Err(fault) => Ok(fail(machine, origin, fault)),
     }
@@ -130,16 +130,16 @@ fn with_flag<const REGS: usize>(
     pages: &Pages,
     origin: Origin,
     taken: FlagUse,
-    operand: &Operand,
+    operand: Operand,
 ) -> Result<LineOutcome, FocalRefusal>
     requires sound { IsTrue (is_sound machine.old.ram.registers) }
-    requires held { is_operand_left_out operand.now ≡ false }
-    ensures used { UsesFlag pages.now origin taken operand.now (machine_of machine.old)
+    requires held { is_operand_left_out operand ≡ false }
+    ensures used { UsesFlag pages.now origin taken operand (machine_of machine.old)
         (machine_of machine.new) result }
     ensures unchanged { OnErr result (machine.new ≡ machine.old) }
     ensures keeps { KeepsRest machine.old machine.new }
 {
-    match flag_of(&machine.ram, operand, taken.highest()) {
+    match flag_of(&machine.ram, &operand, taken.highest()) {
         Ok(flag) => use_flag(machine, pages, origin, taken, flag),
         Err(fault) => Ok(fail(machine, origin, fault)),
     }

@@ -92,7 +92,7 @@ pub fn carry_short<const REGS: usize>(
         ShortLine::Register(function, register) => short(machine, origin, function, register),
         ShortLine::Plain(function) => plain_at_once(machine, pages, origin, function),
         ShortLine::WithOperand(function, operand) => with_operand(
-            machine, pages, origin, function, &operand,
+            machine, pages, origin, function, operand,
         ),
         ShortLine::Module(number, entry) => Ok(call_module(machine, pages, origin, number, entry)),
         ShortLine::BranchIndirect(branch, register) => indirect(

@@ -1,7 +1,7 @@
 use Rattle.std.proofs.Common.{Ok}
 use Rattle.h41_focal.proofs.LinesTaken.{plain_taken}
 use Rattle.h41_positions.specs.LabelledMachine.{machine_of}
-use Rattle.h41_focal.specs.declared.works.FunctionWork.TheVariants.{Move, OfX, OfYAndX}
+use Rattle.h41_focal.specs.declared.works.FunctionWork.TheVariants.{Move, OfX, OfYAndX, Return}
 use Rattle.h41_focal.proofs.functions.plain_at_once.Goals as goal
 
 pub returns-in-Some-OfYAndX : goal.returns-in-Some-OfYAndX
@@ -42,6 +42,20 @@ returns-in-Some-OfX g c =
       unchanged = tt;
       keeps = c.of_x.ensures.keeps;
     }
+
+pub returns-in-Some-Return : goal.returns-in-Some-Return
+returns-in-Some-Return g c =
+    record {
+      taken =
+          plain_taken c.args.pages.now c.args.origin c.args.function Return
+          (machine_of c.args.machine.now) (machine_of c.go_back.new.machine) (Ok c.go_back.result)
+          (let row = c.work_of.ensures in rw (c.in-Some-Return.is, c.in-Some-Return.field-0-is) at row) (c.go_back.ensures.done 0);
+      unchanged = tt;
+      keeps = c.go_back.ensures.keeps;
+    }
+
+pub go_back-requires : goal.go_back-requires
+go_back-requires g c = assumption
 
 pub move_stack-requires : goal.move_stack-requires
 move_stack-requires g c = assumption

@@ -5,13 +5,13 @@ use Rattle.h41_focal.proofs.operand_lines.with_operand.Goals as goal
 
 pub returns-in-Register : goal.returns-in-Register
 returns-in-Register g c =
-    let held : is_use_left_out c.args.function c.args.operand.now ≡ false =
+    let held : is_use_left_out c.args.function c.args.operand ≡ false =
     sym c.is_left_out.ensures ∙ c.if-is_left_out.false in
     let taken = c.use_of.ensures in
     let row = rw c.in-Register.is at taken in
     record {
       taken =
-          register_taken c.args.pages.now c.args.origin c.args.function c.args.operand.now c.in-Register.taken _ _ _ held row.0 row.1
+          register_taken c.args.pages.now c.args.origin c.args.function c.args.operand c.in-Register.taken _ _ _ held row.0 row.1
           c.with_register.ensures.used;
       unchanged = c.with_register.ensures.unchanged;
       keeps = c.with_register.ensures.keeps;
@@ -19,13 +19,13 @@ returns-in-Register g c =
 
 pub returns-in-Digits : goal.returns-in-Digits
 returns-in-Digits g c =
-    let held : is_use_left_out c.args.function c.args.operand.now ≡ false =
+    let held : is_use_left_out c.args.function c.args.operand ≡ false =
     sym c.is_left_out.ensures ∙ c.if-is_left_out.false in
     let taken = c.use_of.ensures in
     let row = rw c.in-Digits.is at taken in
     record {
       taken =
-          digits_taken c.args.pages.now c.args.origin c.args.function c.args.operand.now c.in-Digits.taken _ _ _ held row.0 row.1
+          digits_taken c.args.pages.now c.args.origin c.args.function c.args.operand c.in-Digits.taken _ _ _ held row.0 row.1
           (c.with_digits.ensures.used c.args.pages.now);
       unchanged = c.with_digits.ensures.unchanged;
       keeps = c.with_digits.ensures.keeps;
@@ -33,13 +33,13 @@ returns-in-Digits g c =
 
 pub returns-in-Flag : goal.returns-in-Flag
 returns-in-Flag g c =
-    let held : is_use_left_out c.args.function c.args.operand.now ≡ false =
+    let held : is_use_left_out c.args.function c.args.operand ≡ false =
     sym c.is_left_out.ensures ∙ c.if-is_left_out.false in
     let taken = c.use_of.ensures in
     let row = rw c.in-Flag.is at taken in
     record {
       taken =
-          flag_taken c.args.pages.now c.args.origin c.args.function c.args.operand.now c.in-Flag.taken _ _ _ held row.0 row.1
+          flag_taken c.args.pages.now c.args.origin c.args.function c.args.operand c.in-Flag.taken _ _ _ held row.0 row.1
           c.with_flag.ensures.used;
       unchanged = c.with_flag.ensures.unchanged;
       keeps = c.with_flag.ensures.keeps;
@@ -47,13 +47,13 @@ returns-in-Flag g c =
 
 pub returns-in-Label : goal.returns-in-Label
 returns-in-Label g c =
-    let held : is_use_left_out c.args.function c.args.operand.now ≡ false =
+    let held : is_use_left_out c.args.function c.args.operand ≡ false =
     sym c.is_left_out.ensures ∙ c.if-is_left_out.false in
     let taken = c.use_of.ensures in
     let row = rw c.in-Label.is at taken in
     record {
       taken =
-          label_taken c.args.pages.now c.args.origin c.args.function c.args.operand.now _ _ (Ok c.be_silent.result) held row.0 row.1
+          label_taken c.args.pages.now c.args.origin c.args.function c.args.operand _ _ (Ok c.be_silent.result) held row.0 row.1
           (c.be_silent.ensures.done 0 c.args.pages.now);
       unchanged = tt;
       keeps = c.be_silent.ensures.keeps;

@@ -27,7 +27,6 @@ REASONS = [
 # Lines that the tool prints, with `--verbose`, when it tries to prove the functions.
 UNPROVED = [
     "prove-module: proving 6 theorems\n",
-    "prove-module: checked the proof of NEEDS, ",
     f"a.asm:2: `3 * C.M + 5 * A.M <> 0DDDDDDD`: not proved: {KNOWN} at `?C RTN` in line 4\n",
     f"a.asm:2: `3 * C.M + 5 * A.M <> 0DDDDDDD`: not proved: {KNOWN} at `RTN` in line 6\n",
     f"a.asm:7: `3 * C.M + 5 * A.M <> 0DDDDDDD`: not proved: {KNOWN} at `RTN` in line 11, if `JNC :JOINED_1` in line 9 jumps\n",

@@ -1,7 +1,6 @@
 """Reads a program and the claims about it: a listing with claims in its comments, or bytes with claims in a text beside them."""
 from __future__ import annotations
 
-import os
 from dataclasses import replace
 from typing import NamedTuple
 
@@ -40,11 +39,6 @@ class Source(NamedTuple):
     def place(self, number: int) -> str:
         """Returns the place of a program line."""
         return f"{self.path}:{number}" if self.path == self.claims else f"{self.path}: line {number}"
-
-
-def is_program(path: str) -> bool:
-    """Returns whether a file is a program, by its name."""
-    return os.path.splitext(path)[1].lower() in (".txt", ".raw")
 
 
 def texts_in(path: str) -> list[str]:

@@ -22,8 +22,8 @@ class ProgramProof:
     to which it belongs, and the text of the claim."""
 
     def __init__(self, program: Program) -> None:
-        """Writes the statements of all points."""
-        self.program = program
+        """Writes the statements of all points. `uses` has the names of the programs whose theorems the proof cites."""
+        self.program, self.uses = program, program.callees()
         # The contents of registers that subroutines have left and that are no variables.
         self.bound: dict[str, str] = {}
         self.parts: list[str] = []

@@ -9,7 +9,7 @@ from argparse import Namespace
 from .claims import Wrong
 from .codes import NotProved
 from .decks import Failure, end_with_reader
-from .linefiles import function_of, write_crate
+from .linefiles import write_crate
 from .lineprograms import Source, mismatches, programs_in, source_of
 from .linetheorems import Program
 from .linetrials import LineTrials
@@ -76,7 +76,7 @@ def prove_programs(report: ProgramReport, programs: list[tuple[int, Program]], t
     for line, claim, why in verdict.faults:
         report.bad(line or chosen[0][0], claim, f"not proved: {why}")
     for line, program in chosen:
-        if function_of(program).removeprefix("of_") in verdict.proved:
+        if program.name in verdict.proved:
             count = len(program.equations)
             claims, lines = f"claim{'' if count == 1 else 's'}", f"line{'' if str(program.most) == '1' else 's'}"
             report.tell(line, f"{program.shown}: proved for every state that meets its requirements: {count} {claims}, "
@@ -84,6 +84,8 @@ def prove_programs(report: ProgramReport, programs: list[tuple[int, Program]], t
         elif not verdict.faults:
             report.bad(line, "", f"{program.shown}: not proved, and the prover does not say why: with --keep FOLDER, the proof is in "
                                  "FOLDER/proofs")
+        elif unproved := [call.program.shown for call in program.walk.calls.values() if call.program.name not in verdict.proved]:
+            report.bad(line, "", f"{program.shown}: not proved, because it calls {unproved[0]}, whose claims are not proved")
 
 
 def read(options: Namespace) -> tuple[Source, list[tuple[int, Program]]]:

@@ -22,14 +22,11 @@ USED_BY_PROGRAMS = ("h41_digits", "h41_lines", "h41_fields", "h41_arith", "h41_w
                     "h41_labels", "h41_positions", "h41_numbers", "h41_plain_numbers", "h41_rows", "h41_focal", "h41_laws_words",
                     "h41_reasoning_lines")
 ERROR = re.compile(r"\./(proofs/\S+|specs/\S+):(\d+):\d+: error: (.*)")
-OF_FUNCTION = re.compile(rf"fn {CRATE}::functions::of_(\w+): (.*)")
+OF_LABEL = re.compile(r"(?:proofs|specs)/Of_(\w+)\.antt")
 PROVED = "logic=proved "
 
 # Where a file names another crate: a definition or a lemma, or a law.
 OF_CRATE = re.compile(r"\bRattle\.(\w+)\.|^use (\w+)::", re.M)
-
-# What the prover says while it runs.
-CHECKED = re.compile(rf"checked {CRATE}::functions::of_(\w+), (\d+) of (\d+)")
 
 # What the prover says of a proof that rests on another one that is not proved.
 FOLLOWS = re.compile(r"declarations? that depends? on .* not checked")
@@ -39,13 +36,15 @@ NO_DECISION = re.compile(r"`omega`: the goal does not follow from what it read")
 
 
 class Proof(Protocol):
-    """A proof that was written: for each line of its file its text, the source line to which it belongs, and the text of its claim."""
+    """A proof that was written: for each line of its file its text, the source line to which it belongs, and the text of its claim.
+    `uses` has the names of the theorems that it cites."""
     rows: list[tuple[str, int, str]]
+    uses: list[str]
 
 
 class Verdict(NamedTuple):
-    """What the prover says: the labels, in lower case, whose theorems are proved, and for each claim that is not proved its source line,
-    its text and the reason."""
+    """What the prover says: the names of the theorems that are proved, and for each claim that is not proved its source line, its text and
+    the reason."""
     proved: set[str]
     faults: list[tuple[int, str, str]]
     text: str
@@ -90,12 +89,12 @@ def named_in(crate: str) -> set[str]:
 
 
 def command(crate: str, folder: str, used: tuple[str, ...]) -> list[str]:
-    """Returns the command that proves a crate, in its folder. The prover needs longer to start if it is given a library that the crate does
-    not name."""
+    """Returns the command that proves a crate, in its folder. The prover needs longer to start for each library that the crate names, and
+    finds the libraries below these by itself."""
     top, named = kit(), named_in(crate)
-    words = [f"{top}/bin/rattle", "check", "--crate-name", CRATE, "src/lib.rt", "--extern", f"std={top}/rlibs/std.rlib"]
+    words = [f"{top}/bin/rattle", "check", "--crate-name", CRATE, "src/lib.rt"]
     paths = {name: library(folder, name) for name in used}
-    for name, path in paths.items():
+    for name, path in {"std": f"{top}/rlibs/std.rlib", **paths}.items():
         words += ["--extern", f"{name}={path}"] if name in named else []
     for within in dict.fromkeys([*(os.path.dirname(path) for path in paths.values()), f"{top}/rlibs"]):
         words += ["-L", f"dependency={within}"]
@@ -105,21 +104,12 @@ def command(crate: str, folder: str, used: tuple[str, ...]) -> list[str]:
 
 def prove(crate: str, libraries: str, proofs: Mapping[str, Proof], used: tuple[str, ...] = USED,
           reasons: Mapping[str, Sequence[str]] | None = None) -> Verdict:
-    """Returns what the prover says of a crate in a folder. `reasons` has for each line of a proof why it may fail. While the prover runs,
-    the theorems that it has checked are shown. It keeps memory that it may want again, which saves it time."""
+    """Returns what the prover says of a crate in a folder. `reasons` has for each line of a proof why it may fail. The prover keeps memory
+    that it may want again, which saves it time."""
     progress.show(f"proving {progress.counted(len(proofs), 'theorem')}")
-    names = {path.removeprefix("proofs/Of_").removesuffix(".antt").lower(): path.removeprefix("proofs/Of_").removesuffix(".antt")
-             for path in proofs}
-    lines: list[str] = []
-    with subprocess.Popen([*command(crate, libraries, used), *(["--progress"] if progress.is_shown else [])], cwd=crate, stdin=subprocess.DEVNULL,
-                          stdout=subprocess.PIPE, stderr=subprocess.STDOUT, env={"MIMALLOC_PURGE_DELAY": "-1"} | os.environ) as ran:
-        assert ran.stdout
-        for line in ran.stdout:
-            lines.append(line.decode(errors="replace"))
-            found = CHECKED.match(lines[-1])
-            if found:
-                progress.show(f"checked the proof of {names.get(found[1], found[1])}, {found[2]} of {found[3]}")
-    return verdict_of("".join(lines), proofs, reasons)
+    ran = subprocess.run(command(crate, libraries, used), cwd=crate, stdin=subprocess.DEVNULL, stdout=subprocess.PIPE,
+                         stderr=subprocess.STDOUT, env={"MIMALLOC_PURGE_DELAY": "-1"} | os.environ, check=False)
+    return verdict_of(ran.stdout.decode(errors="replace"), proofs, reasons)
 
 
 def verdict_of(text: str, proofs: Mapping[str, Proof], reasons: Mapping[str, Sequence[str]] | None = None) -> Verdict:
@@ -129,22 +119,39 @@ def verdict_of(text: str, proofs: Mapping[str, Proof], reasons: Mapping[str, Seq
     if not is_judged:
         last = next((line for line in reversed(lines) if line.strip()), "it printed nothing")
         raise Failure(f"the prover gave no verdict: {last}", NO_ANSWER)
-    faults = []
+    faults, wrong = [], set()
     for line in lines:
         found = ERROR.match(line)
-        if found and FOLLOWS.search(found[3]):
+        if not found:
             continue
-        if found and found[1] in proofs and int(found[2]) <= len(proofs[found[1]].rows):
+        label = OF_LABEL.fullmatch(found[1])
+        wrong |= {label[1] if label else ""}
+        if FOLLOWS.search(found[3]):
+            continue
+        if found[1] in proofs and int(found[2]) <= len(proofs[found[1]].rows):
             at = int(found[2]) - 1
             _, source, claim = proofs[found[1]].rows[at]
             faults.append((source, claim, reason_of(found[3], (reasons or {}).get(found[1], [""] * (at + 1))[at])))
-        elif found:
+        else:
             faults.append((0, "", f"{found[1]}:{found[2]}: {found[3]}"))
-    proved = {found[1] for found in map(OF_FUNCTION.match, lines) if found and found[2] == "proved"}
-    if not faults and not any(line.startswith(PROVED) for line in lines):
+    is_proved = any(line.startswith(PROVED) for line in lines)
+    if not faults and not is_proved:
         faults.append((0, "", next((line for line in lines if "error" in line), next((line for line in lines if "not proved" in line),
                                                                                      "logic=not-proved"))))
-    return Verdict(proved, sorted(dict.fromkeys(faults), key=lambda fault: fault[0]), text)
+    return Verdict(proved_of(proofs, wrong, is_proved), sorted(dict.fromkeys(faults), key=lambda fault: fault[0]), text)
+
+
+def proved_of(proofs: Mapping[str, Proof], wrong: set[str], is_proved: bool) -> set[str]:
+    """Returns the names of the theorems that are proved. If the crate is not, they are those whose files have no error, and which cite no
+    other theorem; `wrong` has the names of those with errors, or an empty name if another file has one."""
+    names = {found[1]: proof.uses for path, proof in proofs.items() if (found := OF_LABEL.fullmatch(path))}
+    if is_proved and not wrong:
+        return set(names)
+    if not wrong or not wrong <= set(names):
+        return set()
+    while more := {name for name, uses in names.items() if name not in wrong and wrong & set(uses)}:
+        wrong |= more
+    return set(names) - wrong
 
 
 def reason_of(message: str, why: str = "") -> str:

@@ -9,39 +9,28 @@ from .symbols import OUTSIDE, REGISTERS, record, register_at, stack, start_of
 RELATIONS = {"=": "≡", "<": "<", "<=": "≤", "<>": "≢"}
 CRATE = "module"
 
-# What the files of a crate can name.
+# What the files of a crate can name. All of it is in the crate h41_reasoning, which passes names of other crates on, because the prover
+# needs longer to start for each library that a crate names.
 IMPORTS = """\
-use Rattle.std.proofs.Common.{◌≡◌, ◌≢◌, ℕ, suc, pos, negsuc, ◌+◌, ◌-◌, ◌*◌, ◌^◌, ◌<◌, ◌≤◌, Bool, true, false, not, List, [], ◌∷◌}
-use Rattle.std.proofs.Common.{◌/◌, ◌%◌, ◌⊎◌}
-use Rattle.std.proofs.Common.{length, slice_index, slice_set, refl, ap, subst, sym, ◌∙◌, inl, inr, arith, rules}
-use Rattle.std.specs.Int.Signed.{le_z_yes}
-use Rattle.std.specs.Int.Bits.{bit_and, bit_or}
-use Rattle.h41_arith.specs.DigitRule.{DifferenceInto, SumInto, carry_digit, copy_of, is_different, is_less, is_nonzero}
-use Rattle.h41_arith.specs.DigitRule.{shifted_left, shifted_right, zeros}
-use Rattle.h41_arith.specs.DigitRuleLaws.{DifferenceIsOfNumbers, DifferentAtAPlace, ReplacedIsDetermined, SumIsOfNumbers, number_of}
-use Rattle.h41_digits.specs.Register.{IsRegister}
-use Rattle.h41_fields.specs.Field.{first_place, last_place, places, register_places}
-use Rattle.h41_fields.specs.declared.field.Field.TheVariants.{All, AtPointer, ExponentSign, Mantissa, MantissaSign, PToQ}
-use Rattle.h41_fields.specs.declared.field.Field.TheVariants.{SignAndExponent, ToPointer}
-use Rattle.h41_fields.specs.declared.field.Pointer.TheVariants.{P, Q}
-use Rattle.h41_laws_words.specs.WholeStates.{IsWhole}
-use Rattle.h41_nut.specs.Addresses.{is_closed}
-use Rattle.h41_nut.specs.Pointers.{is_status_set, with_status}
-use Rattle.h41_nut.specs.ProcessorLaws.{OtherStatusStays, StatusIsRead}
-use Rattle.h41_nut.specs.RegisterWords.{digits_and, digits_or, rotated_register}
-use Rattle.h41_nut.specs.WordStep.{Nut}
-use Rattle.h41_nut.specs.declared.base.Base.TheVariants.{Decimal, Hexadecimal}
-use Rattle.h41_words.specs.WordTable as words
-use Rattle.h41_words.specs.declared.operation.Operation.TheVariants as operations
-use Rattle.h41_words.specs.declared.rows.Condition.TheVariants.{Carry, NoCarry}
-use Rattle.h41_words.specs.declared.rows.RegisterTransfer.TheVariants as transfers
-use Rattle.h41_laws_words.proofs.Registers.{held_at, register_set}
-use Rattle.h41_ram.specs.RegisterMap.{RegisterMap, register_at, with_register}
-use Rattle.h41_ram.specs.RegisterMapLaws.{KeepsOtherAddresses, ReadsWhatWasWritten}
+use Rattle.h41_reasoning.specs.Names.{◌≡◌, ◌≢◌, ℕ, suc, pos, negsuc, ◌+◌, ◌-◌, ◌*◌, ◌/◌, ◌%◌, ◌^◌, ◌<◌, ◌≤◌, ◌⊎◌}
+use Rattle.h41_reasoning.specs.Names.{Bool, true, false, not, List, [], ◌∷◌, length, slice_index, slice_set}
+use Rattle.h41_reasoning.specs.Names.{le_z_yes, bit_and, bit_or}
+use Rattle.h41_reasoning.specs.Names.{DifferenceInto, SumInto, carry_digit, copy_of, is_different, is_less, is_nonzero}
+use Rattle.h41_reasoning.specs.Names.{shifted_left, shifted_right, zeros, number_of, IsRegister}
+use Rattle.h41_reasoning.specs.Names.{first_place, last_place, places, register_places}
+use Rattle.h41_reasoning.specs.Names.{All, AtPointer, ExponentSign, Mantissa, MantissaSign, PToQ, SignAndExponent, ToPointer, P, Q}
+use Rattle.h41_reasoning.specs.Names.{IsWhole, is_closed, is_status_set, with_status, digits_and, digits_or, rotated_register, Nut}
+use Rattle.h41_reasoning.specs.Names.{Decimal, Hexadecimal, RegisterMap, register_at, with_register, Carry, NoCarry}
+use Rattle.h41_reasoning.specs.WordNumbers as words
+use Rattle.h41_reasoning.specs.Operations as operations
+use Rattle.h41_reasoning.specs.Transfers as transfers
+use Rattle.h41_reasoning.proofs.Names.{refl, ap, subst, sym, ◌∙◌, inl, inr, arith, rules, held_at, register_set}
+use Rattle.h41_reasoning.proofs.Laws.{straight, arithmetic, sums, differences, replaced, at_a_place, read_status, other_status}
+use Rattle.h41_reasoning.proofs.Laws.{reads, keeps}
+use Rattle.h41_reasoning.specs.WordRuns.{StepsTo}
 use Rattle.h41_reasoning.specs.Decimals.{IsDecimal}
 use Rattle.h41_reasoning.specs.Memory.{HasMemory}
 use Rattle.h41_reasoning.specs.Runs.{HasWords, Reaches, Takes}
-use Rattle.h41_reasoning.specs.WordRuns.{ArithmeticIsExecuted, StepsTo, WordIsExecuted}
 use Rattle.h41_reasoning.proofs.Bytes.{and_at_least, and_at_most_a, and_at_most_c, byte_in_status, or_at_least_a, or_at_least_c}
 use Rattle.h41_reasoning.proofs.Bytes.{or_at_most, status_10_kept, status_11_kept, status_12_kept, status_13_kept, status_8_kept}
 use Rattle.h41_reasoning.proofs.Bytes.{status_9_kept, status_bits}
@@ -73,41 +62,22 @@ use Rattle.h41_reasoning.proofs.Spans.{below, kept_above, kept_below, parts}
 use Rattle.h41_reasoning.proofs.TwoWords.{load_immediate}
 """
 SPEC_IMPORTS = """\
-use Rattle.std.specs.Prelude.{◌≡◌, ◌≢◌, ℕ, ◌+◌, ◌*◌, ◌%◌, ◌<◌, ◌≤◌, Bool, true, false, List, [], ◌∷◌}
-use Rattle.h41_arith.specs.DigitRule.{carry_digit}
-use Rattle.h41_arith.specs.DigitRuleLaws.{number_of}
-use Rattle.h41_fields.specs.declared.field.Pointer.TheVariants.{P, Q}
-use Rattle.h41_laws_words.specs.WholeStates.{IsWhole}
-use Rattle.h41_nut.specs.Addresses.{is_closed}
-use Rattle.h41_nut.specs.Pointers.{is_status_set}
-use Rattle.h41_nut.specs.WordStep.{Nut}
-use Rattle.h41_nut.specs.declared.base.Base.TheVariants.{Decimal, Hexadecimal}
-use Rattle.h41_ram.specs.RegisterMap.{register_at}
+use Rattle.h41_reasoning.specs.Names.{◌≡◌, ◌≢◌, ℕ, ◌+◌, ◌*◌, ◌%◌, ◌<◌, ◌≤◌, Bool, true, false, List, [], ◌∷◌}
+use Rattle.h41_reasoning.specs.Names.{carry_digit, number_of, P, Q, IsWhole, is_closed, is_status_set, Nut, Decimal, Hexadecimal}
+use Rattle.h41_reasoning.specs.Names.{register_at}
 use Rattle.h41_reasoning.specs.Decimals.{IsDecimal}
 use Rattle.h41_reasoning.specs.Memory.{HasMemory}
 use Rattle.h41_reasoning.specs.Runs.{HasWords, Reaches, Takes}
 """
 # What the files about a project name too.
 PROJECT_SPEC_IMPORTS = """\
-use Rattle.h41_pages.specs.PageMap.{chosen_at, with_chosen}
-use Rattle.h41_words.specs.declared.rows.Bank.TheVariants.{First, Second, Third, Fourth}
+use Rattle.h41_reasoning.specs.Names.{chosen_at, with_chosen, First, Second, Third, Fourth}
 """
 PROJECT_IMPORTS = f"""\
 {PROJECT_SPEC_IMPORTS}use Rattle.h41_reasoning.proofs.Banks.{{bank_active, bank_again}}
 use Rattle.h41_reasoning.proofs.OneWord.{{bank_enabled}}
 use Rattle.h41_reasoning.proofs.Plugged.{{chosen_elsewhere, chosen_there, plugged_some, plugged_words}}
 """
-# The laws that each proof gets, in this order: their types, and what they are called in an answer.
-LAWS = [("straight", "WordIsExecuted", "c.word_is_executed.ensures.straight"),
-        ("arithmetic", "ArithmeticIsExecuted", "c.word_is_executed.ensures.arithmetic"),
-        ("sums", "SumIsOfNumbers", "c.digit_rule_as_whole_numbers.ensures.sum"),
-        ("differences", "DifferenceIsOfNumbers", "c.digit_rule_as_whole_numbers.ensures.difference"),
-        ("replaced", "ReplacedIsDetermined", "c.replaced_is_determined.ensures"),
-        ("at_a_place", "DifferentAtAPlace", "c.different_at_a_place.ensures"),
-        ("read_status", "StatusIsRead", "c.status_is_read.ensures.read"),
-        ("other_status", "OtherStatusStays", "c.status_is_read.ensures.others")]
-MEMORY_LAWS = [("reads", "ReadsWhatWasWritten", "c.read_after_write.ensures"),
-               ("keeps", "KeepsOtherAddresses", "c.write_keeps_other_addresses.ensures")]
 UNFOLDING = "unfolding words.number_of first_place last_place places register_places"
 RETURNS = ("r0", "r1", "r2", "r3")
 
@@ -180,11 +150,6 @@ def reached(result: Result) -> str:
 def lost_returns(result: Result) -> list[str]:
     """Returns the names of return addresses of which nothing is known after a function."""
     return [name for name in result.returns if name.startswith("return_")]
-
-
-def laws_of(result: Result) -> list[tuple[str, str, str]]:
-    """Returns the laws that a proof needs."""
-    return [*LAWS, *(MEMORY_LAWS if result.uses_memory else [])]
 
 
 def pages_of(code: Code, result: Result) -> list[tuple[str, str]]:

@@ -7,7 +7,7 @@ from .activebanks import NUMBERS, words_text
 from .codes import Code, Result
 from .knowledge import FEWEST, MAIN_START
 from .needed import trimmed
-from .statements import CRATE, laws_of, spec_of
+from .statements import CRATE, spec_of
 from .symbols import REGISTERS
 from .theorems import Proof
 
@@ -15,12 +15,11 @@ from .theorems import Proof
 def write_crate(folder: str, code: Code, results: list[Result], title: str) -> dict[str, Proof]:
     """Writes the crate into a folder. Returns the proofs by the paths of their files."""
     labels = [result.label for result in results]
-    files = {"src/lib.rt": f"//! Theorems about the functions of {title}.\n#![tactic(auto)]\n\npub mod functions;\n",
+    files = {"src/lib.rt": f"//! Theorems about the functions of {title}.\n#![tactic(auto)]\n",
              "specs/Lib.antt": "".join(f"pub mod {name}\n" for name in ["Words", *(f"Of_{label}" for label in labels)]),
              "proofs/Lib.antt": "".join(f"pub mod {name}\n" for name in [*(["Kept"] if code.is_project else []),
                                                                          *(f"Of_{label}" for label in labels)]),
-             "specs/Words.antt": project_words_of(code, title) if code.is_project else words_of(code, title),
-             "src/functions.rt": functions_of(code, results)}
+             "specs/Words.antt": project_words_of(code, title) if code.is_project else words_of(code, title)}
     if code.is_project:
         files["proofs/Kept.antt"] = kept_of(code)
     proofs = {}
@@ -29,7 +28,6 @@ def write_crate(folder: str, code: Code, results: list[Result], title: str) -> d
         proof = Proof(code, result)
         files[f"specs/Of_{result.label}.antt"] = trimmed(spec_of(code, result))
         files[f"proofs/Of_{result.label}.antt"] = proof.text()
-        files[f"proofs/functions/of_{result.label.lower()}/Answers.antt"] = answer_of(result)
         proofs[f"proofs/Of_{result.label}.antt"] = proof
     for name, text in files.items():
         path = os.path.join(folder, name)
@@ -42,15 +40,14 @@ def write_crate(folder: str, code: Code, results: list[Result], title: str) -> d
 def words_of(code: Code, title: str) -> str:
     """Returns the file of the words of a source alone."""
     return (f"-- The words of {title}, from {code.origin:04X} on.\n"
-            "use Rattle.std.specs.Prelude.{ℕ, List, [], ◌∷◌}\n\n"
+            "use Rattle.h41_reasoning.specs.Names.{ℕ, List, [], ◌∷◌}\n\n"
             f"abbrev pub module_words : List ℕ\nmodule_words = {words_text(code.banks[0])}\n")
 
 
 def project_words_of(code: Code, title: str) -> str:
     """Returns the file of the words of a project, and of where they are."""
-    rows = [f"-- The words of {title}, and where they are.", "use Rattle.std.specs.Prelude.{ℕ, List, [], ◌∷◌}",
-            "use Rattle.h41_pages.specs.PageMap.{PageMap}",
-            "use Rattle.h41_words.specs.declared.rows.Bank.TheVariants.{First, Second, Third, Fourth}",
+    rows = [f"-- The words of {title}, and where they are.",
+            "use Rattle.h41_reasoning.specs.Names.{ℕ, List, [], ◌∷◌, PageMap, First, Second, Third, Fourth}",
             "use Rattle.h41_reasoning.specs.Plugged.{IsPlugged}"]
     for bank in code.banks:
         rows += ["", f"-- {bank.name}: bank {bank.number} of page {bank.page:X}, from {bank.page << 12:04X} on.",
@@ -63,39 +60,11 @@ def project_words_of(code: Code, title: str) -> str:
 def kept_of(code: Code) -> str:
     """Returns the file with the proof that ENBANK keeps the words of a project."""
     names = ", ".join(["HasModule", *(f"words_{bank.name}" for bank in code.banks)])
-    rows = ["-- Whichever bank is activated, the words are in the pages.", "use Rattle.std.proofs.Common.{ℕ}",
-            "use Rattle.h41_pages.specs.PageMap.{PageMap, with_chosen}", "use Rattle.h41_words.specs.declared.rows.Bank.{Bank}",
-            "use Rattle.h41_words.specs.declared.rows.Bank.TheVariants.{First, Second, Third, Fourth}",
+    rows = ["-- Whichever bank is activated, the words are in the pages.",
+            "use Rattle.h41_reasoning.specs.Names.{ℕ, PageMap, with_chosen, Bank, First, Second, Third, Fourth}",
             "use Rattle.h41_reasoning.proofs.Plugged.{plugged_still}", f"use Rattle.{CRATE}.specs.Words.{{{names}}}", "",
             "pub module_kept : (pages : PageMap) (page : ℕ) (bank : Bank) → HasModule pages → HasModule (with_chosen pages page bank)",
             "module_kept pages page bank has = record {"]
     rows += [f"  at_{one.name} = plugged_still pages {one.page} page {NUMBERS[one.number - 1]} bank words_{one.name} has.at_{one.name};"
              for one in code.banks]
     return "\n".join([*rows, "}", ""])
-
-
-def functions_of(code: Code, results: list[Result]) -> str:
-    """Returns the functions whose contracts are the theorems."""
-    rows = ["//! Each theorem is the contract of a function whose body calls the laws that its proof uses.", ""]
-    rows += [f"ghost use Rattle.{CRATE}.specs.Of_{result.label}.{{{result.label}_Returns}};" for result in results]
-    rows += ["", "use h41_arith::laws::{different_at_a_place, digit_rule_as_whole_numbers, replaced_is_determined};",
-             "use h41_nut::laws::status_is_read;"]
-    if any(result.uses_memory for result in results):
-        rows.append("use h41_ram::laws::{read_after_write, write_keeps_other_addresses};")
-    rows.append("use h41_reasoning::words::word_is_executed;")
-    for result in results:
-        rows += ["", f"/// States what {result.label} leaves.", f"pub fn of_{result.label.lower()}()",
-                 f"    ensures {{ {result.label}_Returns }}",
-                 "{", "    word_is_executed();", "    digit_rule_as_whole_numbers();", "    replaced_is_determined();",
-                 "    different_at_a_place();", "    status_is_read();",
-                 *(["    read_after_write();", "    write_keeps_other_addresses();"] if result.uses_memory else []),
-                 *(f"    of_{name.lower()}();" for name in result.calls), "}"]
-    return "".join(f"{row}\n" for row in rows)
-
-
-def answer_of(result: Result) -> str:
-    """Returns the file that answers the contract of a function by its proof."""
-    name = f"of_{result.label.lower()}"
-    laws = " ".join([*(term for _, _, term in laws_of(result)), *(f"c.of_{one.lower()}.ensures" for one in result.calls)])
-    return (f"use Rattle.{CRATE}.proofs.Of_{result.label}.{{proved}}\nuse Rattle.{CRATE}.proofs.functions.{name}.Goals as goal\n\n"
-            f"pub returns : goal.returns\nreturns c = proved {laws}\n")

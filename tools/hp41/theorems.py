@@ -10,17 +10,18 @@ from .codes import Code, Loop, Result, known_at_start
 from .loopproofs import LoopProof
 from .needed import IMPORT, needed, words_in
 from .reasons import Reasons
-from .statements import CRATE, IMPORTS, PROJECT_IMPORTS, RETURNS, UNFOLDING, done_name, laws_of, pages_of, requirements, sum_text
+from .statements import CRATE, IMPORTS, PROJECT_IMPORTS, RETURNS, UNFOLDING, done_name, pages_of, requirements, sum_text
 from .symbols import REGISTERS, Fact, Form, Node, State, Way, argument, form_text, keys_in, stack
 
 
 class Proof:
-    """The proof of one function. `rows` has its lines, each with the source line and the claim that it is about, and `reasons` why each of
-    them may fail. `loop` is the loop whose rounds are being written, and `after` what is true after the run that is being written."""
+    """The proof of one function. `rows` has its lines, each with the source line and the claim that it is about, `reasons` why each of
+    them may fail, and `uses` the functions whose theorems it cites. `loop` is the loop whose rounds are being written, and `after` what is
+    true after the run that is being written."""
 
     def __init__(self, code: Code, result: Result) -> None:
         """Begins without lines."""
-        self.code, self.result = code, result
+        self.code, self.result, self.uses = code, result, result.calls
         self.rows: list[tuple[str, int, str]] = []
         self.reasons: list[str] = []
         self.why, self.because = "", Reasons(code, result)
@@ -43,11 +44,10 @@ class Proof:
         result, label = self.result, self.result.label
         for row in [f"-- The proof of {label}.", *IMPORTS.splitlines(), *(PROJECT_IMPORTS if self.code.is_project else "").splitlines(),
                     words_import(self.code),
-                    *(f"use Rattle.{CRATE}.specs.Of_{name}.{{{done_name(name)}, {name}_Returns}}" for name in [label, *result.calls]), ""]:
+                    *(f"use Rattle.{CRATE}.specs.Of_{name}.{{{done_name(name)}, {name}_Returns}}" for name in [label, *result.calls]),
+                    *(f"use Rattle.{CRATE}.proofs.Of_{name}.{{proved as theorem_{name}}}" for name in result.calls), ""]:
             self.put(0, row)
-        binders = [f"({name} : {law})" for name, law, _ in laws_of(result)]
-        binders += [f"(theorem_{name} : {name}_Returns)" for name in result.calls]
-        binders += ["(s : Nut) (r0 r1 r2 r3 : ℕ)", *(f"({name} : {text})" for name, text in pages_of(self.code, result))]
+        binders = ["(s : Nut) (r0 r1 r2 r3 : ℕ)", *(f"({name} : {text})" for name, text in pages_of(self.code, result))]
         binders += [f"(is_memory : HasMemory {REGISTERS} s.ram)"] if result.uses_memory else []
         binders += ["(may_return : is_closed r0 ≡ false)"]
         binders += [f"({name} : {text})" for name, text in requirements(result) if name.startswith("required")]
@@ -66,17 +66,15 @@ class Proof:
         """Adds the theorem."""
         label, known, root = result.label, known_at_start(result.contract), result.root.state
         self.line = result.contract.line
-        names = [name for name, _, _ in laws_of(result)] + [f"theorem_{name}" for name in result.calls]
-        types = [law for _, law, _ in laws_of(result)] + [f"{name}_Returns" for name in result.calls]
         self.put(0, "")
-        self.put(0, f"pub proved : {' → '.join(types)} → {label}_Returns")
+        self.put(0, f"pub proved : {label}_Returns")
         needs = [name for name, _ in requirements(result)]
         given = [name for name in needs if name.startswith("required")]
         memory = " is_memory" if result.uses_memory else ""
         has = " ".join(name for name, _ in pages_of(self.code, result))
-        self.put(0, f"proved {' '.join(names)} s r0 r1 r2 r3 whole next {has}{memory} stack may_return {' '.join(needs)} =")
+        self.put(0, f"proved s r0 r1 r2 r3 whole next {has}{memory} stack may_return {' '.join(needs)} =")
         self.put(2, f"let here : {root.text()} ≡ s = {here(known)} in")
-        went = (f"go_0 {' '.join(names)} s r0 r1 r2 r3 {has}{memory} may_return {' '.join(given)} (subst IsWhole (sym here) whole)")
+        went = (f"go_0 s r0 r1 r2 r3 {has}{memory} may_return {' '.join(given)} (subst IsWhole (sym here) whole)")
         count = sum_text(result.bound, "s")
         if not result.is_exact and not result.is_budgeted:
             went = f"more_suffice {result.steps} ({count}) {root.text()} ({done_name(label)} s r0 r1 r2 r3) (omega arith) ({went})"

@@ -1,3 +1,4 @@
+pub mod Names
 pub mod WordRuns
 pub mod Rounds
 pub mod Digits
@@ -15,3 +16,4 @@ pub mod Decimals
 pub mod Bytes
 pub mod Plugged
 pub mod Differences
+pub mod Laws

@@ -1,3 +1,7 @@
+pub mod Names
+pub mod WordNumbers
+pub mod Operations
+pub mod Transfers
 pub mod Runs
 pub mod WordRuns
 pub mod Rounds

@@ -22,3 +22,4 @@ pub mod Calls
 pub mod Counting
 pub mod Loops
 pub mod SignedDecimals
+pub mod Laws

@@ -45,8 +45,6 @@ from ..claims import Wrong
 from ..codes import Code, NotProved, Result
 from ..commandlines import Parser
 from ..decks import Failure, end_with_reader
-from ..lineprograms import is_program
-from ..lineproving import run_programs
 from ..linking import Linked
 from ..listing import add_project, add_source, in_order
 from ..misplaced import wrong_page
@@ -55,6 +53,11 @@ from ..proving import LIBRARIES, check_libraries, kit, prove
 from ..sources import PAGES, Assembled, Faulty
 from ..theoremfiles import write_crate
 from ..trials import counterexamples
+
+
+def is_program(path: str) -> bool:
+    """Returns whether a file is a program, by its name."""
+    return os.path.splitext(path)[1].lower() in (".txt", ".raw")
 
 
 def options_of(words: list[str]) -> argparse.Namespace:
@@ -143,10 +146,13 @@ def prove_all(report: Report, code: Code, tried: dict[str, int], options: argpar
     for line, claim, why in verdict.faults:
         report.bad(line, claim, f"not proved: {why}")
     for result in results:
-        if result.label.lower() in verdict.proved:
+        if result.label in verdict.proved:
             tell_proved(report, code, result, tried[result.label])
         elif not verdict.faults:
             report.bad(result.contract.line, "", f"{code.shown(result.label)}: not proved")
+        elif unproved := [name for name in result.calls if name not in verdict.proved]:
+            report.bad(code.line_of(result.label), "", f"{code.shown(result.label)}: not proved, because it calls "
+                       f"{code.shown(unproved[0])}, whose claims are not proved")
 
 
 def tell_proved(report: Report, code: Code, result: Result, count: int) -> None:
@@ -184,6 +190,8 @@ def main(words: list[str]) -> int:
     if options.keep and os.path.exists(options.keep):
         raise Failure(f"--keep {options.keep}: it exists already: choose another name")
     if is_program(options.file):
+        # Only programs need these modules, which take time to load.
+        from ..lineproving import run_programs
         return run_programs(options)
     if not options.is_trial:
         kit()

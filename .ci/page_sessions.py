@@ -45,6 +45,24 @@ def branches(page: Page) -> None:
     end = answer["states"]["at"] + len(answer["states"]["changes"])
     page.go(page.ask(do="branch", state=end - 4))
     row("the deck of a state in a trace", page.deck().decode().splitlines()[-1], "trace 5")
+    spellings_kept(page)
+
+
+def spellings_kept(page: Page) -> None:
+    """A branch from the end of a command has the command as it was written; one from a state within it has the steps that were made."""
+    for command in ("trace 007", "step  03", "run\t0020 ", "  step", "trace +7"):
+        page.ask(do="begin")
+        page.give(LOOP)
+        page.give(f"{command}\nkey SHIFT\n")
+        place = page.ask(do="stop")["states"]
+        end = place["at"] + len(place["changes"])
+        page.go(page.ask(do="branch", state=end - 1))
+        row(f"the deck of a branch after {command!r}", page.deck(), f"{LOOP}{command}\n".encode())
+    page.ask(do="begin")
+    page.give(LOOP)
+    answer = page.give("trace 0009\n")
+    page.go(page.ask(do="branch", state=answer["states"]["at"] + len(answer["states"]["changes"]) - 4))
+    row("the deck of a state in a trace with zeros", page.deck().decode().splitlines()[-1], "trace 5")
 
 
 def branches_refused(page: Page) -> None:

@@ -114,7 +114,7 @@ class Desk:
         texts = [entry.text if entry.text.endswith(b"\n") else entry.text + b"\n" for entry in entries]
         if steps or doing is not None and len(entries) == len(self.log):
             steps = steps or self.queue[0].asked
-            texts[-1] = command_of(texts[-1].split()[0].decode(), steps)
+            texts[-1] = Part(texts[-1], True).parted(steps)[0]
         return Branch(texts, self.lesson.kept(entries, steps) if self.lesson else None)
 
     def branch_at(self, number: int) -> Branch:

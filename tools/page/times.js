@@ -110,10 +110,15 @@ function showTrace() {
   showBranches();
 }
 
+let isPassed = false;       // whether another page has gone on with the session while this one shows an earlier state
+
+/** Shows the bar of an earlier state. A screen reader says its text when it changes, so that it has no number while another page goes on. */
 function showPast() {
   by("past").hidden = shown === null;
-  const before = lastNumber() - (shown ?? 0);
-  by("past").querySelector("span").textContent = `This is an earlier state: ${before} state${before === 1 ? "" : "s"} before the last one.`;
+  const [before, words] = [lastNumber() - (shown ?? 0), by("past").querySelector("span")];
+  const text = isPassed ? "This is an earlier state. The session has gone on in another page." :
+    `This is an earlier state: ${counted(before, "state")} before the last one.`;
+  if (words.textContent !== text) words.textContent = text;
   Object.assign(by("moment"), { min: firstNumber(), max: lastNumber() });
   if (goal === null) by("moment").value = shown ?? lastNumber();
 }
@@ -137,9 +142,10 @@ const REPEATING = "This state is not kept: the session is executed again up to i
 let goal = null;            // the number of the state that is looked for, while the session is executed again up to it
 
 /** Stops a run, and shows another state. A function computes its number from the number of the state that is shown. A state that the page
-    does not have is found first; if another one is asked for meanwhile, that one is shown. */
-async function goTo(place) {
-  [driver, changeShown] = [null, null];
+    does not have is found first; if another one is asked for meanwhile, that one is shown. `isSame` is whether it is the one that is shown. */
+async function goTo(place, isSame = false) {
+  if (!isSame) [changeShown, isPassed] = [null, false];
+  driver = null;
   closeQuestion();
   await line;
   const isUnderway = goal !== null;

@@ -1,5 +1,5 @@
 """Measures what users found wrong in the layout of the page: the bar of a past state, refusals on the large page in wide and narrow
-windows, tall steps of the trace, keys that flash again, and the sheet that is printed."""
+windows, the step of a lesson beside the keys, tall steps of the trace, keys that flash again, and the sheet that is printed."""
 import base64
 import re
 from collections.abc import Iterator, Sequence
@@ -101,6 +101,31 @@ def large_refusals(visit: Visit) -> None:
         visit.row(f"a refusal, {where}", REFUSED, [True, True, [True, True], True, False, True, False, 1, True])
         if panel != "keys":
             visit.row(f"the list of speeds, {where}", LIST, True)
+
+
+# Which buttons below the display or the keys are not in view as a whole, are covered, or are not in the line of the others.
+BUTTONS = """
+const buttons = ['run', 'step', 'stop', 'lesson-step'].map(by);
+const [panel, root] = [by('calculator').getBoundingClientRect(), document.documentElement];
+return buttons.filter((one) => {
+  const { left, right, top, bottom } = one.getBoundingClientRect();
+  return !one.checkVisibility() || top < 0 || bottom > innerHeight || right > Math.min(panel.right, innerWidth) || one.scrollWidth > one.clientWidth
+    || !one.contains(document.elementFromPoint((left + right) / 2, (top + bottom) / 2)) && !one.disabled
+    || Math.abs(top - buttons[0].getBoundingClientRect().top) > 2;
+}).map((one) => one.id).concat(root.scrollWidth > innerWidth || root.scrollHeight > innerHeight ? ['the page scrolls'] : [])"""
+
+
+def lesson_steps(visit: Visit) -> None:
+    """On the large page with the keys, or with any panel that is not the lesson's, Next step is in view and executes a step of the lesson."""
+    browser = visit.browser
+    browser.run("return openLesson('trace')")
+    for panel, where in large_at(visit, ["keys", "stack-panel"], WIDE):
+        visit.row(f"buttons of a lesson that are not in view, {where}", BUTTONS, [])
+        browser.run("by('run').textContent = 'Continue'")
+        visit.row(f"buttons that are not in view while a run can continue, {where}", BUTTONS, [])
+        at = browser.run("return lastNumber()")
+        browser.click("#lesson-step")
+        visit.row(f"what Next step executes, {where}", f"return lastNumber() > {at} && by('panel').value", panel)
 
 
 # Windows with one column, in which the page itself scrolls.

@@ -84,7 +84,7 @@ function showLesson(state) {
   if (!lesson && by("large").checked && by("panel").value === "lesson") return choosePanel("trace-panel");
   by("lesson").hidden = !lesson;
   // On the large page another panel may have its place.
-  by("lesson-step").hidden = !lesson || !by("large").checked || ["lesson", "keys"].includes(by("panel").value);
+  by("lesson-step").hidden = !lesson || !by("large").checked || by("panel").value === "lesson";
   if (!lesson) return;
   const number = lessonNames.indexOf(lesson.name);
   by("lesson").querySelector("h2").textContent = `${number + 1} of ${lessonNames.length}: ${lesson.title}`;

@@ -105,6 +105,7 @@ const OTHER_SESSION = "Another page of this calculator has begun another session
 function take(answer, isOther = false) {
   const isEarlier = isOther && (shown !== null || goal !== null);
   const isOver = isEarlier && answer.session !== session;
+  const end = past.length ? lastNumber() : 0;
   if (answer.session !== session) {
     [session, entries, past, older, goal, lesson, since, reasons] = [answer.session, [], [], null, null, null, 0, {}];
     by("rate").textContent = "";
@@ -119,7 +120,7 @@ function take(answer, isOther = false) {
     entries[number] = { bytes, text: textOf(bytes), reply, isRepeated, refused };
   }
   remember(answer.states);
-  if (answer.version !== told && isEarlier && !isOver) stayEarlier();
+  if (isEarlier && !isOver) stayEarlier(lastNumber() > end);
   else if (answer.version !== told) {
     [shown, goal, isPassed] = [null, null, false];
     closeQuestion();
@@ -132,13 +133,13 @@ function take(answer, isOther = false) {
   if (by("told").textContent === WAITING && answer.brought?.waits === 0) tellOfBrought(answer.brought);
 }
 
-/** Stays in an earlier state after an action of another page, whose refusals are not shown here. If the page has the state no more, it is
-    found again. */
-function stayEarlier() {
+/** Stays in an earlier state after an action of another page, whose refusals are not shown here. `hasStates` is whether the session has gone on.
+    If the page has the state that is shown no more, it is found again. */
+function stayEarlier(hasStates) {
   since = entries.length;
+  isPassed ||= hasStates;
   const number = shown;
   if (number !== null && !isHeld(number)) act(() => goTo(() => number, true));
-  isPassed = true;
 }
 
 /** Returns the state after a change. Of long lists the change has only the items that differ. */

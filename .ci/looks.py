@@ -1,5 +1,7 @@
 """Measures what users found wrong in the layout of the page: the bar of a past state, refusals on the large page in wide and narrow
-windows, tall steps of the trace, keys that flash again, and the sizes of printed letters."""
+windows, the step of a lesson beside the keys, tall steps of the trace, keys that flash again, and the sheet that is printed."""
+import base64
+import re
 from collections.abc import Iterator, Sequence
 
 from visits import Visit, row
@@ -101,6 +103,31 @@ def large_refusals(visit: Visit) -> None:
             visit.row(f"the list of speeds, {where}", LIST, True)
 
 
+# Which buttons below the display or the keys are not in view as a whole, are covered, or are not in the line of the others.
+BUTTONS = """
+const buttons = ['run', 'step', 'stop', 'lesson-step'].map(by);
+const [panel, root] = [by('calculator').getBoundingClientRect(), document.documentElement];
+return buttons.filter((one) => {
+  const { left, right, top, bottom } = one.getBoundingClientRect();
+  return !one.checkVisibility() || top < 0 || bottom > innerHeight || right > Math.min(panel.right, innerWidth) || one.scrollWidth > one.clientWidth
+    || !one.contains(document.elementFromPoint((left + right) / 2, (top + bottom) / 2)) && !one.disabled
+    || Math.abs(top - buttons[0].getBoundingClientRect().top) > 2;
+}).map((one) => one.id).concat(root.scrollWidth > innerWidth || root.scrollHeight > innerHeight ? ['the page scrolls'] : [])"""
+
+
+def lesson_steps(visit: Visit) -> None:
+    """On the large page with the keys, or with any panel that is not the lesson's, Next step is in view and executes a step of the lesson."""
+    browser = visit.browser
+    browser.run("return openLesson('trace')")
+    for panel, where in large_at(visit, ["keys", "stack-panel"], WIDE):
+        visit.row(f"buttons of a lesson that are not in view, {where}", BUTTONS, [])
+        browser.run("by('run').textContent = 'Continue'")
+        visit.row(f"buttons that are not in view while a run can continue, {where}", BUTTONS, [])
+        at = browser.run("return lastNumber()")
+        browser.click("#lesson-step")
+        visit.row(f"what Next step executes, {where}", f"return lastNumber() > {at} && by('panel').value", panel)
+
+
 # Windows with one column, in which the page itself scrolls.
 NARROW = [(390, 844), (320, 640), (700, 900)]
 # Whether a refusal as a whole and its causes are shown, which of their texts are covered, whether they are cut off, which parts of the
@@ -198,27 +225,81 @@ def flashes(visit: Visit) -> None:
     visit.anew()
 
 
-# The sizes of letters, but for those of the annunciators and the keys.
+# The sizes of letters on the sheet, but for those of the annunciators and the keys.
 PRINTED = """
 const hasText = (one) => [...one.childNodes].some((node) => node.nodeType === 3 && node.textContent.trim());
 const printed = [...document.querySelectorAll('main *')].filter((one) => one.checkVisibility() && hasText(one)
   && !one.closest('#lights, #live, #keys'));
 return [...new Set(printed.map((one) => getComputedStyle(one).fontSize))].sort()"""
+# What of the sheet is outside of it, which lines of text are cut, and of which panels the lines that are printed and those that are counted are
+# not all lines.
+SHEETS = """
+const shown = [...document.querySelectorAll('#beside details')].filter((one) => one.checkVisibility());
+const boxes = [...shown.map(boxIn), by('causes')].filter((one) => one?.checkVisibility());
+const seen = boxes.map((box) => [box, linesIn(box), box.getBoundingClientRect().height]);
+const isOutside = (one) => one.getBoundingClientRect().bottom > SHEET + 1 || one.getBoundingClientRect().right > 704;
+const cut = seen.flatMap(([box, lines, height]) => lines.filter(([begin, end]) => end > 1 && begin < height - 1 && (begin < -1 || end > height + 1))
+  .map(() => box.id));
+const noted = (one) => one?.className === 'unprinted' ? Number(/[0-9]+/.exec(one.textContent)[0]) : 0;
+const counted = seen.filter(([box, lines, height]) => lines.filter(([begin, end]) => begin > -1 && end < height + 1).length
+  + noted(box.previousElementSibling) + noted(box.nextElementSibling) !== lines.length).map(([box]) => box.id);
+return [[...shown, ...document.querySelectorAll('.unprinted'), by('case')].filter(isOutside).map((one) => one.id), cut, counted]"""
+# Which open panels are neither on the sheet nor named there.
+UNNAMED = """
+const named = by('beside').lastElementChild.textContent.split(': ').at(-1).split(', ');
+return [...document.querySelectorAll('#beside details[open]:not(#files-panel, [hidden])')].filter((one) => !one.checkVisibility())
+  .map((one) => one.querySelector('summary').textContent).filter((name) => !named.includes(name))"""
+# What a sheet must not change.
+KEPT = """
+return [document.documentElement.className, document.body.className, document.documentElement.dataset.theme, by('program').scrollTop,
+  document.querySelectorAll('.unprinted, .omitted, [style]:not([style=""])').length, by('program').clientHeight]"""
+# The sizes of paper in inches, and the margins of 12 mm.
+PAPERS, MARGIN = {"A4": (8.27, 11.69), "Letter": (8.5, 11)}, 12 / 25.4
+
+
+def sheet(visit: Visit, name: str) -> None:
+    """Counts whether what is printed is one page without cut lines, and whether the page is afterwards as it was before."""
+    browser = visit.browser
+    visit.quiet()
+    before = browser.run(KEPT)
+    browser.run("dispatchEvent(new Event('beforeprint'))")
+    browser.tell("Emulation.setEmulatedMedia", {"media": "print"})
+    row(f"what is outside of the sheet, cut or not counted: {name}", browser.run(SHEETS), [[], [], []])
+    row(f"open panels that are not named: {name}", browser.run(UNNAMED), [])
+    browser.tell("Emulation.setEmulatedMedia", {"media": ""})
+    browser.run("dispatchEvent(new Event('afterprint'))")
+    row(f"the page after it was printed: {name}", browser.run(KEPT), before)
+    for paper, (width, height) in PAPERS.items():
+        margins = {f"margin{side}": MARGIN for side in ("Top", "Bottom", "Left", "Right")}
+        printed = browser.tell("Page.printToPDF", {"paperWidth": width, "paperHeight": height, **margins})
+        found = re.findall(rb"/Type /Pages\s*/Count ([0-9]+)", base64.b64decode(printed["data"]))
+        row(f"pages of {paper}: {name}", found, [b"1"])
 
 
 def prints(visit: Visit) -> None:
-    """The large page is printed in the sizes of the other page."""
+    """One sheet is printed, from the large page too, and in any window. It cuts no line, and says what it lacks."""
     browser = visit.browser
-    browser.run("return give('program\\nLBL 01\\n1\\n+\\nend\\nwords 8\\n130 123 226 3E0\\nend\\ncall 8000\\nstep 2\\nkey SIN\\n')")
+    lines = "[...Array(60)].map((_, at) => `LBL ${10 + at}\\n\"TEXT ${at}\"\\n${at}.5\\nSTO ${10 + at % 30}\\n`).join('')"
+    browser.run(f"return give('program\\n' + {lines} + 'end\\nwords 8\\n130 123 226 3E0\\nend\\nkey R/S\\nrun 90\\nkey R/S\\n')")
+    sheet(visit, "the panels that are open at first")
+    browser.run("by('program').scrollTop = by('program').scrollHeight")
+    sheet(visit, "the last lines of a program")
+    browser.run("by('program').scrollTop = 500; return press(['SIN', 'PRGM'])")
+    sheet(visit, "lines with keys, and causes")
+    browser.run("return give('key PRGM\\ncall 8000\\nstep 2\\nkey SIN\\n')")
     browser.run("for (const one of document.querySelectorAll('details:not(#files-panel)')) one.open = true")
     visit.quiet()
     found = []
-    for _ in range(2):
-        browser.tell("Emulation.setEmulatedMedia", {"media": "print"})
+    for where in ("all panels", "all panels of the large page"):
+        sheet(visit, where)
+        browser.run("dispatchEvent(new Event('beforeprint'))")
         found.append(browser.run(PRINTED))
-        browser.tell("Emulation.setEmulatedMedia", {"media": ""})
+        browser.run("dispatchEvent(new Event('afterprint'))")
         browser.click("#large")
     row("sizes of letters in print, large and not", found[1], found[0])
+    sized(visit, 390, 844, True)
+    sheet(visit, "all panels of a narrow window in the dark")
+    sized(visit, 1280, 900)
     browser.run("for (const one of document.querySelectorAll('details')) "
                 "one.open = ['next-panel', 'program-panel', 'stack-panel', 'deck-panel'].includes(one.id)")
     visit.anew()

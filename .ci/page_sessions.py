@@ -45,6 +45,24 @@ def branches(page: Page) -> None:
     end = answer["states"]["at"] + len(answer["states"]["changes"])
     page.go(page.ask(do="branch", state=end - 4))
     row("the deck of a state in a trace", page.deck().decode().splitlines()[-1], "trace 5")
+    spellings_kept(page)
+
+
+def spellings_kept(page: Page) -> None:
+    """A branch from the end of a command has the command as it was written; one from a state within it has the steps that were made."""
+    for command in ("trace 007", "step  03", "run\t0020 ", "  step", "trace +7"):
+        page.ask(do="begin")
+        page.give(LOOP)
+        page.give(f"{command}\nkey SHIFT\n")
+        place = page.ask(do="stop")["states"]
+        end = place["at"] + len(place["changes"])
+        page.go(page.ask(do="branch", state=end - 1))
+        row(f"the deck of a branch after {command!r}", page.deck(), f"{LOOP}{command}\n".encode())
+    page.ask(do="begin")
+    page.give(LOOP)
+    answer = page.give("trace 0009\n")
+    page.go(page.ask(do="branch", state=answer["states"]["at"] + len(answer["states"]["changes"]) - 4))
+    row("the deck of a state in a trace with zeros", page.deck().decode().splitlines()[-1], "trace 5")
 
 
 def branches_refused(page: Page) -> None:
@@ -197,20 +215,52 @@ def breaks_of_past(visit: Visit) -> None:
 
 
 def last_changes(visit: Visit) -> None:
-    """The page goes back to the state before a register, a digit or a flag was changed last; the program of runs_to_lines is stepped."""
+    """The page goes back to the state that the last change of a register, a digit or a flag led to, and then to the changes before it; the
+    program of runs_to_lines is stepped."""
     browser = visit.browser
+    told = "return by('refusal').textContent"
     for _ in range(4):
         browser.run("return step()")
     browser.run("by('watched').value = 'R05'; by('digit').value = ''")
     browser.click("#last-change")
     visit.row("the last change of a register", "return [lineMade(...looked()), by('refusal').textContent]",
               ["Run 0003 STO 05", "The last change of R05: 01000000000000 → 02000000000000"])
+    earlier_changes(visit)
     browser.run("by('watched').value = 'X'; by('digit').value = '12'; return goTo(() => Infinity)")
     browser.click("#last-change")
-    visit.row("the last change of a digit", "return by('refusal').textContent", "The last change of digit 12 of X: 2 → 1")
+    visit.row("the last change of a digit", told, "The last change of digit 12 of X: 1 → 3")
     browser.run("by('watched').value = 'flag 07'; by('digit').value = ''")
     browser.click("#last-change")
-    visit.row("a flag that did not change", "return by('refusal').textContent", "No state before this one changed flag 07")
+    visit.row("a flag that did not change", told, "No state up to this one changed flag 07")
+
+
+def earlier_changes(visit: Visit) -> None:
+    """Each further click goes to the change before. A change that led to the state that is shown counts, also in the last state."""
+    browser, seen = visit.browser, "return [by('past').hidden, by('refusal').textContent]"
+    first, second = ([False, f"{which} change of R05: 00000000000000 → 01000000000000"] for which in ("An earlier", "The last"))
+    browser.click("#last-change")
+    visit.row("the change before the last one", seen, first)
+    at = browser.run("return shown")
+    browser.click("#last-change")
+    visit.row("no change before the first one", seen, [False, "No state before this one changed R05"])
+    visit.row("the first change stays", "return shown", at)
+    browser.type("]")
+    browser.click("#last-change")
+    visit.row("the last change up to a past state", seen, second)
+    browser.type("]", "[")
+    browser.click("#last-change")
+    visit.row("a change that led to the past state itself", seen, second)
+    visit.row("its state", "return shown", at)
+    browser.type("[")
+    browser.click("#last-change")
+    visit.row("a state before all changes", seen, [False, "No state up to this one changed R05"])
+    browser.run("return goTo(() => Infinity)")
+    for _ in range(2):
+        browser.run("return step()")
+    browser.click("#last-change")
+    visit.row("a change that led to the last state", seen, [True, "The last change of R05: 02000000000000 → 03000000000000"])
+    browser.click("#last-change")
+    visit.row("the change before it", seen, [False, "An earlier change of R05: 01000000000000 → 02000000000000"])
 
 
 def old_refusals(visit: Visit) -> None:

@@ -22,7 +22,7 @@ from .lessons import OpenLesson
 from .lights import AFTER, BEFORE, PROMPT, Lights, Seen
 from .matches import whole
 from .memory import MAIN_START, Memory
-from .pageends import is_cut, joined, why_cut
+from .pageends import is_cut, joined, lists_at, why_cut
 from .paging import Listed, Pages
 from .parts import MOST_STEPS, NO_END, Entry, Part, command_of, parts_of, refusal_of
 from .plugged import Names
@@ -54,7 +54,6 @@ STEPPING = re.compile(rb"[ \t]*(?:run|step|trace)\s")
 OF_WORDS, OF_LINES = re.compile("! (0[6-9]|1[0-2]) "), "! 13 "
 MOST_REGISTERS = 320
 VIEWS = ("cpu", "stack", "flags", "alpha", "display", "pos", "lines", "functions")
-WORDS_BEFORE, WORDS_BEHIND = 16, 32
 
 
 class Desk:
@@ -115,7 +114,7 @@ class Desk:
         texts = [entry.text if entry.text.endswith(b"\n") else entry.text + b"\n" for entry in entries]
         if steps or doing is not None and len(entries) == len(self.log):
             steps = steps or self.queue[0].asked
-            texts[-1] = command_of(texts[-1].split()[0].decode(), steps)
+            texts[-1] = Part(texts[-1], True).parted(steps)[0]
         return Branch(texts, self.lesson.kept(entries, steps) if self.lesson else None)
 
     def branch_at(self, number: int) -> Branch:
@@ -233,15 +232,16 @@ class Desk:
         elif part.pieces and all(isinstance(piece, Text) or piece in KEYS for piece in part.pieces):
             self.press(part, entry)
         elif part.is_command:
-            entry.reply = self.bench.ask_all([part.text.rstrip(b"\n")])[0]
+            entry.reply, pos = self.bench.ask_all([part.text.rstrip(b"\n"), b"show pos"])
             self.keep_up(part, entry)
+            self.lights.follow(pos[0])
 
     def carry_piece(self, part: Part, kind: str, entry: Entry, most: Optional[int]) -> None:
         """Executes the next piece of a run, of a step with a count, or of a trace. Pieces become longer while they are fast."""
         self.lights.is_on = False
         count = min(part.left, self.size, most or self.size)
         begun = time.monotonic()
-        reply = self.bench.ask_all([b"%s %d" % (kind.encode(), count)])[0]
+        reply = self.made_reply(kind, count)
         took = time.monotonic() - begun
         if count == self.size:
             self.size = min(2 * count, 1_000_000) if took < PIECE else max(count // 2, 16) if took > 4 * PIECE else count
@@ -259,6 +259,15 @@ class Desk:
             self.seen = self.made if is_refused else self.seen
             entry.add(reply)
             part.left = 0 if is_refused else part.left
+
+    def made_reply(self, kind: str, count: int) -> list[str]:
+        """Has the bench make steps, and returns its reply. A step may end a program, and the next one may call a function without a program:
+        only a trace prints the modes between them."""
+        has_modes = kind == "trace" or kind == "step" and self.lights.running and count > 1
+        reply, pos = self.bench.ask_all([b"%s %d" % (b"trace" if has_modes else kind.encode(), count), b"show pos"])
+        for line in [*(reply if has_modes else []), *pos]:
+            self.lights.follow(line)
+        return reply[len(reply) - (refusal_of(reply) is not None):] if has_modes and kind == "step" else reply
 
     def press(self, part: Part, entry: Entry) -> None:
         """Presses keys in turn, up to the first one that is refused. In the session, the names of keys replace texts and numbers."""
@@ -329,7 +338,7 @@ class Desk:
         views: State = dict(zip(VIEWS, replies))
         memory = Memory([line[4:] for line in printed], self.top)
         mode, place = views["pos"][0].split()
-        lists = self.lists_at(int(place, 16)) if mode == "Micro" else []
+        lists = lists_at(int(place, 16)) if mode == "Micro" else []
         views["memory"], views["divided"] = memory.digits, [*memory.divided(), memory.is_sound()]
         views["registers"] = memory.data_registers()
         views["values"] = [text_of(digits) for digits in views["registers"]]
@@ -349,7 +358,8 @@ class Desk:
     def place(self, made: int) -> Place:
         """Returns the place of the state in the session; `made` are the steps since the state before."""
         steps = self.queue[0].asked if self.doing() is not None else 0
-        return Place(len(self.log), steps, made, self.lights.shift, self.lights.program, self.lights.is_on)
+        lights = self.lights
+        return Place(len(self.log), steps, made, lights.shift, lights.program, lights.is_on, lights.running)
 
     def skip(self) -> None:
         """Notes where the state is, without reading it."""
@@ -374,14 +384,6 @@ class Desk:
         image, = self.bench.ask_all([b"show image %s" % place[1].encode()])
         return in_page(place, [] if refusal_of(image) else image, memory, self.pages)
 
-    def lists_at(self, at: int) -> list[bytes]:
-        """Returns the commands that list the words around an address. The words before it are listed from several start addresses,
-        because instructions have one word or two."""
-        start, end = at & 0xF000, (at | 0x0FFF) + 1
-        begins = sorted({max(start, at - WORDS_BEFORE + skip) for skip in range(4)} - {at})
-        return [b"list %04X %d" % (begin, at - begin) for begin in begins] + \
-            [b"list %04X %d" % (at, min(WORDS_BEHIND, end - at))]
-
     def listing(self, lists: list[list[str]], place: str) -> list[list[str]]:
         """Returns the lines around an address, taken from the first of these lists in which an instruction ends at the address."""
         def ends(lines: list[str]) -> bool:
@@ -403,7 +405,7 @@ class Desk:
         display = self.views["display"][0]
         flags, is_name = self.views["flags"][0], NAME.search(display) is not None
         spells = is_name or "48" in flags.split() and not PROMPT.fullmatch(display)
-        return {**self.views, "shift": self.lights.shift, "program": self.lights.program,
+        return {**self.views, "shift": self.lights.shift, "program": self.lights.program, "running": self.lights.running,
                 "breaks": sorted([kind, place] for kind, place in self.breaks), "spells": spells,
                 "writable": sorted([page, bank] for page, bank in self.names.written if (page, bank) in self.names.known),
                 "plugged": self.names.told(), "keys_if": self.lights.keys_if(display, flags, is_name), "off": self.is_off(), "returns": None,

@@ -58,8 +58,9 @@ class Place(NamedTuple):
     made: int = 0
     shift: bool = False
     program: bool = False
-    # Whether a key had just turned the display on.
+    # Whether a key had just turned the display on, and whether a program ran, or a function that a program had called.
     is_on: bool = False
+    running: bool = False
 
 
 class History:
@@ -82,8 +83,8 @@ class History:
 
     def place(self, number: int) -> Place:
         """Returns the place of a state."""
-        entries, steps, made, shift, program, is_on = (column[number] for column in self.places)
-        return Place(entries, steps, made, bool(shift), bool(program), bool(is_on))
+        entries, steps, made, *lights = (column[number] for column in self.places)
+        return Place(entries, steps, made, *map(bool, lights))
 
     def is_read(self) -> bool:
         """Returns whether the last state is kept."""

@@ -1,8 +1,11 @@
-"""SHIFT and program mode, which no view of the bench prints. They are read from what the bench replies to each key. In the same way it is
-read from a key that an empty display is on; otherwise tools/hp41/displays.py finds whether it is.
+"""SHIFT, program mode, and whether a program runs, which no view of the bench prints while a function in microcode runs. The first two are
+read from what the bench replies to each key. In the same way it is read from a key that an empty display is on; otherwise
+tools/hp41/displays.py finds whether it is.
 
 Each key is sent with the views of the display and of the position before and after it. The display decides: in program mode it is the
-program line at the position, and a prompt shows IND if SHIFT was pressed in it."""
+program line at the position, and a prompt shows IND if SHIFT was pressed in it.
+
+While a function in microcode runs, its caller is the program if a program ran before it. So the mode is read after each command."""
 import re
 from typing import NamedTuple
 
@@ -44,10 +47,18 @@ class Lights:
     def __init__(self) -> None:
         """Begins with both off, and the display on."""
         self.shift = self.program = False
+        # Whether a program runs, or a function in microcode that a program has called.
+        self.running = False
         # Whether the last key has turned the display on, and nothing was executed afterwards, which may have turned it off.
         self.is_on = True
         # What was on the display after the last key: a prompt that is open there stays open under a message.
         self.prompt = ""
+
+    def follow(self, position: str) -> None:
+        """Reads the mode of a position. While a function runs, its caller does not change."""
+        mode = position.partition(" ")[0]
+        if mode in ("Idle", "Run"):
+            self.running = mode == "Run"
 
     def keys_if(self, display: str, flags: str, is_name: bool) -> str:
         """Returns in which state the keys of program lines type them, if this is not so now. `is_name` is whether a name is being typed."""
@@ -57,6 +68,7 @@ class Lights:
 
     def press(self, name: str, before: Seen, after: Seen) -> None:
         """Reads the state after an accepted key. While something runs, keys have no effect on it, but turn the display on."""
+        self.follow(after.pos)
         # SST executes a line, and so does the key that ends the prompt of XEQ: this line may be OFF.
         is_line = before.is_idle and (name == "SST" or any(one.startswith("XEQ ") for one in (self.prompt, before.display)))
         self.is_on = not is_line

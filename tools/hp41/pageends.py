@@ -8,6 +8,9 @@ from .stubs import LDI
 # The last place of a page, and how the bench lists a word that is cut from the next one.
 LAST, CUT = "FFF", "CON "
 
+# How many words are listed before an address, and from it on.
+WORDS_BEFORE, WORDS_BEHIND = 16, 32
+
 
 def is_cut(at: str, text: str) -> bool:
     """Returns whether a word that is listed at an address is the first of two, and the page ends after it."""
@@ -34,3 +37,11 @@ def why_cut(at: str, text: str) -> str:
     where = "in pages 0 to 3, HP's own ROM" if place < "4000" else "where no module is plugged"
     refusal = "SystemRom (08)" if place < "4000" else "EmptyPage (09)"
     return f"{text[:3]} is the first of two words, and the second one is at {place}, {where}: a step is refused as {refusal}."
+
+
+def lists_at(at: int) -> list[bytes]:
+    """Returns the commands that list the words around an address. The words before it are listed from several start addresses, because
+    instructions have one word or two."""
+    start, end = at & 0xF000, (at | 0x0FFF) + 1
+    begins = sorted({max(start, at - WORDS_BEFORE + skip) for skip in range(4)} - {at})
+    return [b"list %04X %d" % (begin, at - begin) for begin in begins] + [b"list %04X %d" % (at, min(WORDS_BEHIND, end - at))]

@@ -54,9 +54,10 @@ class Part:
         self.reason: Optional[str] = None
 
     def parted(self, steps: int) -> tuple[bytes, Optional[bytes]]:
-        """Returns this command in pieces as two: one that makes so many steps, and one that makes those that are left, or None."""
+        """Returns this command in pieces as two: one that makes so many steps, and one that makes those that are left. If none are left,
+        returns the command as it is written, and None."""
         kind, left = self.words[0], Part(self.text, True).left - steps
-        return command_of(kind, steps), command_of(kind, left) if left > 0 else None
+        return (command_of(kind, steps), command_of(kind, left)) if left > 0 else (self.text, None)
 
     def shown(self) -> str:
         """Returns the part as text."""

@@ -101,7 +101,7 @@ class Repeat:
             place = self.source.history.place(number)
             yield from self.reach(place)
             lights, self.desk.history = self.desk.lights, History()
-            lights.shift, lights.program, lights.is_on = place.shift, place.program, place.is_on
+            lights.shift, lights.program, lights.is_on, lights.running = place.shift, place.program, place.is_on, place.running
             self.found.append({**self.desk.look(), "made": place.made})
             yield
 

@@ -23,7 +23,7 @@ FOLDER = os.path.join(TOOLS, "page")
 FILES = {"": ("calculator.html", "text/html; charset=utf-8"), "calculator.css": ("calculator.css", "text/css; charset=utf-8"),
          **{name: (name, "text/javascript; charset=utf-8")
             for name in ("elements.js", "display.js", "keys.js", "panels.js", "memory.js", "times.js", "lessons.js", "files.js",
-                         "settings.js", "calculator.js")}}
+                         "settings.js", "printing.js", "calculator.js")}}
 
 # The paths after the token that requests name, except for the files.
 PATHS = {"GET": "deck, events, recorded, state or a file such as calculator.js", "POST": "do, export or import"}

@@ -91,15 +91,21 @@ function ask(body, path = "do") {
     const known = { session, since: entries.length, ...(past.length ? { at: pastFirst + past.length - 1 } : {}) };
     const reply = await (body ? fetched(path, { ...body, ...known }) : fetched(`state?${new URLSearchParams(known)}`));
     const answer = await reply.json();
-    if (answer.states) take(answer);
+    if (answer.states) take(answer, body === null);
     return answer;
   });
   line = turn.catch(() => {});
   return turn;
 }
 
-/** Stores the states in an answer, and shows the last one. */
-function take(answer) {
+const OTHER_SESSION = "Another page of this calculator has begun another session: its last state is shown.";
+
+/** Stores the states in an answer, and shows the last one. After an action of another page, an earlier state that is shown stays, unless it
+    belongs to another session. */
+function take(answer, isOther = false) {
+  const isEarlier = isOther && (shown !== null || goal !== null);
+  const isOver = isEarlier && answer.session !== session;
+  const end = past.length ? lastNumber() : 0;
   if (answer.session !== session) {
     [session, entries, past, older, goal, lesson, since, reasons] = [answer.session, [], [], null, null, null, 0, {}];
     by("rate").textContent = "";
@@ -114,15 +120,26 @@ function take(answer) {
     entries[number] = { bytes, text: textOf(bytes), reply, isRepeated, refused };
   }
   remember(answer.states);
-  if (answer.version !== told) {
-    [shown, goal] = [null, null];
+  if (isEarlier && !isOver) stayEarlier(lastNumber() > end);
+  else if (answer.version !== told) {
+    [shown, goal, isPassed] = [null, null, false];
     closeQuestion();
   }
   [waits, told, doing, plugs, branches] = [answer.waits, answer.version, answer.doing, answer.plugs, answer.branches];
   gone(answer.ended, false);
   show();
   tellRefusals();
+  if (isOver) tell(OTHER_SESSION, true);
   if (by("told").textContent === WAITING && answer.brought?.waits === 0) tellOfBrought(answer.brought);
+}
+
+/** Stays in an earlier state after an action of another page, whose refusals are not shown here. `hasStates` is whether the session has gone on.
+    If the page has the state that is shown no more, it is found again. */
+function stayEarlier(hasStates) {
+  since = entries.length;
+  isPassed ||= hasStates;
+  const number = shown;
+  if (number !== null && !isHeld(number)) act(() => goTo(() => number, true));
 }
 
 /** Returns the state after a change. Of long lists the change has only the items that differ. */
@@ -185,7 +202,7 @@ function listen(isAgain) {
     const { version, ended } = JSON.parse(event.data);
     if (version <= told && (ended !== null) === isGone) return;
     // Another page has done something: what this page shows about its own last action is over.
-    if (version > told && isQuiet()) forget();
+    if (version > told && isQuiet() && shown === null) forget();
     act(() => ask(null));
   };
   events.onerror = () => {

@@ -78,14 +78,15 @@ function showDisplay(text, isAgain = false) {
   }
 }
 
-/** Returns the annunciators, and which are lit: those of flags, and SHIFT and PRGM. None is lit while the display is off. */
+/** Returns the annunciators, and which are lit: those of flags, and SHIFT and PRGM. PRGM is lit in program mode, and while a program runs, also
+    while it executes a function in microcode. None is lit while the display is off. */
 function lightsOf(state) {
   const flags = state.flags[0].split(" ");
   const lit = (number) => flags.includes(number);
   const lights = [
     ["USER", lit("27")], ["GRAD", lit("42")], ["RAD", lit("43")], ["SHIFT", state.shift],
     ...["0", "1", "2", "3", "4"].map((number) => [number, lit(`0${number}`)]),
-    ["PRGM", state.program || state.pos[0].startsWith("Run")], ["ALPHA", lit("48")],
+    ["PRGM", state.program || state.running], ["ALPHA", lit("48")],
   ];
   return lights.map(([name, isLit]) => [name, isLit && !state.off]);
 }

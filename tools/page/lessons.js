@@ -84,7 +84,7 @@ function showLesson(state) {
   if (!lesson && by("large").checked && by("panel").value === "lesson") return choosePanel("trace-panel");
   by("lesson").hidden = !lesson;
   // On the large page another panel may have its place.
-  by("lesson-step").hidden = !lesson || !by("large").checked || ["lesson", "keys"].includes(by("panel").value);
+  by("lesson-step").hidden = !lesson || !by("large").checked || by("panel").value === "lesson";
   if (!lesson) return;
   const number = lessonNames.indexOf(lesson.name);
   by("lesson").querySelector("h2").textContent = `${number + 1} of ${lessonNames.length}: ${lesson.title}`;
@@ -166,11 +166,15 @@ function isSameNumber(given, wanted, name, { flags: [flags], display }) {
   return name === "X" && answers.includes(rounded) && !Number.isNaN(rounded) && Math.abs(rounded - value) < 0.51 * unit;
 }
 
+/** Returns a text without its quotes, if it has any, and without the spaces at its end, which the display does not show. */
+const plainText = (text) => text.toUpperCase().replace(/^ *"(.*)" *$/, "$1").trimEnd();
+
 /** Returns whether an answer names a value in a state: numbers may be written in other ways, digits without the zeros before them and in
-    groups, return addresses without the empty ones after them, what the display shows without the `_` after it, and an empty text as "". */
+    groups, return addresses without the empty ones after them, what the display shows without the `_` after it, texts without quotes and
+    without the spaces at their end, and an empty text as "". */
 function isSame(answer, value, { name, isWord }, state) {
-  const [given, wanted] = [answer, value].map((text) => text.trim().toUpperCase().replace(/^"(.*)"$/, "$1"));
-  if (given === wanted || answer.trim() === '""' && value === "empty") return true;
+  const [given, wanted] = [answer, value].map((text) => plainText(text.trim()));
+  if (given === wanted || plainText(answer) === plainText(value) || answer.trim() === '""' && value === "empty") return true;
   if (name === "RTN") return given !== "" && given.split(/[ ,]+/).join(" ").padEnd(wanted.length, " 0000") === wanted;
   if (isWord) {
     const digits = given.replaceAll(" ", "").replace(/^0X(?=.)/, "");
@@ -186,10 +190,11 @@ function isSame(answer, value, { name, isWord }, state) {
 async function answerQuestion() {
   const answered = asked;
   if (!answered) return;
-  const given = by("answer").value.trim();
+  const given = by("answer").value;
   await makeNext(answered.kind);
   const value = valueOf(present(), answered) || "empty";
-  const [isRight, shownName] = [given !== "" && isSame(given, value, answered, present()), answered.name === "display" ? "the display" : answered.name];
-  const text = `${shownName} is ${value}${given === "" || isRight ? "" : `, and not ${given}`}.`;
+  const isGiven = given.trim() !== "";
+  const [isRight, shownName] = [isGiven && isSame(given, value, answered, present()), answered.name === "display" ? "the display" : answered.name];
+  const text = `${shownName} is ${value}${isGiven && !isRight ? `, and not ${given.trim()}` : ""}.`;
   by("verdict").textContent = isRight ? `Right: ${text}` : text.replace(/^t/, "T");
 }

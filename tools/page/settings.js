@@ -79,7 +79,9 @@ function choosePanel(id) {
 
 /** Keeps the height of the bars at the bottom of the window. The panels end above them, and what is next in them stays in view. */
 const measureBars = new ResizeObserver(() => {
-  document.documentElement.style.setProperty("--bar", `${by("bars").offsetHeight}px`);
+  const [style, height] = [document.documentElement.style, `${by("bars").offsetHeight}px`];
+  if (sheet || style.getPropertyValue("--bar") === height) return;
+  style.setProperty("--bar", height);
   for (const id of ["program", "listing", "trace", "parts"]) reveal(by(id), by(id).querySelector(".next"));
 });
 

@@ -110,10 +110,15 @@ function showTrace() {
   showBranches();
 }
 
+let isPassed = false;       // whether another page has gone on with the session while this one shows an earlier state
+
+/** Shows the bar of an earlier state. A screen reader says its text when it changes, so that it has no number while another page goes on. */
 function showPast() {
   by("past").hidden = shown === null;
-  const before = lastNumber() - (shown ?? 0);
-  by("past").querySelector("span").textContent = `This is an earlier state: ${before} state${before === 1 ? "" : "s"} before the last one.`;
+  const [before, words] = [lastNumber() - (shown ?? 0), by("past").querySelector("span")];
+  const text = isPassed ? "This is an earlier state. The session has gone on in another page." :
+    `This is an earlier state: ${counted(before, "state")} before the last one.`;
+  if (words.textContent !== text) words.textContent = text;
   Object.assign(by("moment"), { min: firstNumber(), max: lastNumber() });
   if (goal === null) by("moment").value = shown ?? lastNumber();
 }
@@ -137,8 +142,9 @@ const REPEATING = "This state is not kept: the session is executed again up to i
 let goal = null;            // the number of the state that is looked for, while the session is executed again up to it
 
 /** Stops a run, and shows another state. A function computes its number from the number of the state that is shown. A state that the page
-    does not have is found first; if another one is asked for meanwhile, that one is shown. */
-async function goTo(place) {
+    does not have is found first; if another one is asked for meanwhile, that one is shown. `isSame` is whether it is the one that is shown. */
+async function goTo(place, isSame = false) {
+  if (!isSame) [changeShown, isPassed] = [null, false];
   driver = null;
   closeQuestion();
   await line;
@@ -208,7 +214,10 @@ function showWatched() {
   by("watched").value = names.includes(chosen) ? chosen : "X";
 }
 
-/** Goes back to the state that the last change of the chosen value, or of one of its digits, led to. */
+let changeShown = null;     // the last change that was shown: its session, its value and its state, until another state is shown
+
+/** Goes back to the state that the last change of the chosen value, or of one of its digits, led to: at most the state that is shown. If
+    the page has shown this change already, goes back to the change before it. */
 async function goToChange() {
   const [name, digit] = [by("watched").value, by("digit").value];
   const read = watchable(present())[name];
@@ -216,14 +225,18 @@ async function goToChange() {
     const text = read(stateAt(number)) ?? "";
     return digit === "" ? text : text[text.length - 1 - Number(digit)];
   };
-  let number = (shown ?? lastNumber()) - (shown === null ? 0 : 1);
-  const [first] = heldAround(shown ?? lastNumber());
-  while (number > first && value(number) === value(number - 1)) number -= 1;
   const what = digit === "" ? name : `digit ${digit} of ${name}`;
-  if (number <= first) return tell(first > 0 ? `No state since state ${first} changed ${what}: go there first` :
-    `No state before this one changed ${what}`, true);
+  const at = shown ?? lastNumber();
+  const isShown = changeShown === `${session} ${what} ${at}`;
+  let number = at - (isShown ? 1 : 0);
+  const [first] = heldAround(at);
+  while (number > first && value(number) === value(number - 1)) number -= 1;
+  const which = isShown ? "before this one" : "up to this one";
+  if (number <= first) return tell(first > firstNumber() ? `No state from state ${first} on, ${which}, changed ${what}: go to state ${first}` :
+    `No state ${which} changed ${what}`, true);
   await goTo(() => number);
-  return tell(`The last change of ${what}: ${value(number - 1)} → ${value(number)}`, true);
+  changeShown = `${session} ${what} ${number}`;
+  return tell(`${isShown ? "An earlier" : "The last"} change of ${what}: ${value(number - 1)} → ${value(number)}`, true);
 }
 
 // ---- Branches

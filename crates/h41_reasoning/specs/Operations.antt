@@ -1,10 +1,22 @@
 -- The operations of arithmetic words, passed on from one place. Declares nothing.
-pub use Rattle.h41_words.specs.declared.operation.Operation.TheVariants.{ClearA, ClearB, ClearC, ExchangeAB, AToB}
-pub use Rattle.h41_words.specs.declared.operation.Operation.TheVariants.{ExchangeAC, BToC, ExchangeBC, CToA, AddBToA}
-pub use Rattle.h41_words.specs.declared.operation.Operation.TheVariants.{AddCToA, IncrementA, SubtractBFromA}
-pub use Rattle.h41_words.specs.declared.operation.Operation.TheVariants.{DecrementA, SubtractCFromA, DoubleC, AddAToC}
-pub use Rattle.h41_words.specs.declared.operation.Operation.TheVariants.{IncrementC, SubtractCFromAToC, DecrementC}
-pub use Rattle.h41_words.specs.declared.operation.Operation.TheVariants.{NegateC, ComplementC, TestBNonzero}
-pub use Rattle.h41_words.specs.declared.operation.Operation.TheVariants.{TestCNonzero, TestALessThanC, TestALessThanB}
-pub use Rattle.h41_words.specs.declared.operation.Operation.TheVariants.{TestANonzero, TestADiffersFromC, ShiftRightA}
-pub use Rattle.h41_words.specs.declared.operation.Operation.TheVariants.{ShiftRightB, ShiftRightC, ShiftLeftA}
+pub use Rattle.h41_words.specs.declared.operation.Operation.TheVariants.{ClearA, ClearB, ClearC}
+pub use Rattle.h41_words.specs.declared.operation.Operation.TheVariants.{ExchangeAB, AToB}
+pub use Rattle.h41_words.specs.declared.operation.Operation.TheVariants.{ExchangeAC, BToC}
+pub use Rattle.h41_words.specs.declared.operation.Operation.TheVariants.{ExchangeBC, CToA, AddBToA}
+pub use Rattle.h41_words.specs.declared.operation.Operation.TheVariants.{AddCToA, IncrementA}
+pub use Rattle.h41_words.specs.declared.operation.Operation.TheVariants.{SubtractBFromA}
+pub use Rattle.h41_words.specs.declared.operation.Operation.TheVariants.{DecrementA, SubtractCFromA}
+pub use Rattle.h41_words.specs.declared.operation.Operation.TheVariants.{DoubleC, AddAToC}
+pub use Rattle.h41_words.specs.declared.operation.Operation.TheVariants.{IncrementC}
+pub use Rattle.h41_words.specs.declared.operation.Operation.TheVariants.{SubtractCFromAToC}
+pub use Rattle.h41_words.specs.declared.operation.Operation.TheVariants.{DecrementC}
+pub use Rattle.h41_words.specs.declared.operation.Operation.TheVariants.{NegateC, ComplementC}
+pub use Rattle.h41_words.specs.declared.operation.Operation.TheVariants.{TestBNonzero}
+pub use Rattle.h41_words.specs.declared.operation.Operation.TheVariants.{TestCNonzero}
+pub use Rattle.h41_words.specs.declared.operation.Operation.TheVariants.{TestALessThanC}
+pub use Rattle.h41_words.specs.declared.operation.Operation.TheVariants.{TestALessThanB}
+pub use Rattle.h41_words.specs.declared.operation.Operation.TheVariants.{TestANonzero}
+pub use Rattle.h41_words.specs.declared.operation.Operation.TheVariants.{TestADiffersFromC}
+pub use Rattle.h41_words.specs.declared.operation.Operation.TheVariants.{ShiftRightA}
+pub use Rattle.h41_words.specs.declared.operation.Operation.TheVariants.{ShiftRightB, ShiftRightC}
+pub use Rattle.h41_words.specs.declared.operation.Operation.TheVariants.{ShiftLeftA}

@@ -1,15 +1,13 @@
 -- Bytes begin with one line at most; how to prove that they begin with a line.
-use Rattle.std.proofs.Common.{◌≡◌, ℕ, suc, zero, ◌+◌, ◌-◌, ◌*◌, ◌<◌, ◌≤◌, ◌↔◌, set, add-one, List, [], ◌∷◌, ◌++◌, map, length, take, drop}
+use Rattle.std.proofs.Common.{◌≡◌, ℕ, suc, zero, ◌+◌, ◌-◌, ◌*◌, ◌<◌, ◌≤◌, ◌↔◌, List, [], ◌∷◌, ◌++◌, length, take, drop}
 use Rattle.std.proofs.Common.{get_or, refl, sym, ◌∙◌, ap, subst, arith, Result, Ok, Err, IfOk, OnErr, IsErr, length-append, length-take-le}
 use Rattle.std.proofs.Common.{take-append-drop}
 use Rattle.std.proofs.lemmas.Bool.{false≢true}
 use Rattle.std.proofs.lemmas.List.{take_at}
-use Rattle.std.proofs.Math.Seq.{drop-append_seam, take-suc, take-suc-set}
-use Rattle.std.proofs.lemmas.List.{map-append, length-drop}
+use Rattle.std.proofs.Math.Seq.{drop-append_seam}
+use Rattle.std.proofs.lemmas.List.{length-drop}
 use Rattle.h41_codes.specs.declared.line.Line.{Line}
-use Rattle.h41_codes.specs.declared.characters.Character.{Character}
-use Rattle.h41_codes.specs.declared.line.Line.TheVariants.{GlobalLabel, Number}
-use Rattle.h41_codes.specs.Codes.{character_code}
+use Rattle.h41_codes.specs.declared.line.Line.TheVariants.{GlobalLabel}
 use Rattle.h41_codes.specs.Heads.{IsIn}
 use Rattle.h41_codes.specs.ByteGrammar.{spelling, link_high, link_low, GoesOn, IsBytes, IsLine, IsComplete, Spells, Begins, BeginsNoLine}
 use Rattle.h41_codes.proofs.Reading.{line_at, line_again}
@@ -65,22 +63,6 @@ begins_spelled line rest valid whole = record {
   whole = subst (λ (bytes : List ℕ). IsComplete line bytes) (sym (drop-append_seam (spelling line) rest)) whole;
 }
 
--- The first bytes of a list.
-pub take_one : (bytes : List ℕ) → 0 < length bytes → take 1 bytes ≡ get_or bytes 0 0 ∷ []
-take_one [] inside = absurd (omega arith)
-take_one (a ∷ bytes) inside = refl
-
-pub take_two : (bytes : List ℕ) → 2 ≤ length bytes → take 2 bytes ≡ get_or bytes 0 0 ∷ get_or bytes 1 0 ∷ []
-take_two [] inside = absurd (omega arith)
-take_two (a ∷ []) inside = absurd (omega arith)
-take_two (a ∷ b ∷ bytes) inside = refl
-
-pub take_three : (bytes : List ℕ) → 3 ≤ length bytes → take 3 bytes ≡ get_or bytes 0 0 ∷ get_or bytes 1 0 ∷ get_or bytes 2 0 ∷ []
-take_three [] inside = absurd (omega arith)
-take_three (a ∷ []) inside = absurd (omega arith)
-take_three (a ∷ b ∷ []) inside = absurd (omega arith)
-take_three (a ∷ b ∷ c ∷ bytes) inside = refl
-
 pub take_four_and : (bytes : List ℕ) (n : ℕ) → 4 ≤ length bytes
     → take (4 + n) bytes ≡ get_or bytes 0 0 ∷ get_or bytes 1 0 ∷ get_or bytes 2 0 ∷ get_or bytes 3 0 ∷ take n (drop 4 bytes)
 take_four_and [] n inside = absurd (omega arith)
@@ -120,26 +102,3 @@ goes_on [] zero on = absurd on
 goes_on [] (suc n) on = absurd on
 goes_on (code ∷ bytes) zero on = (omega arith, (on.0, omega (arith, on.1)))
 goes_on (code ∷ bytes) (suc n) on = let more = goes_on bytes n on in (omega (arith, more.0), more.1)
-
-pub begins_number : (bytes : List ℕ) (characters cells : List Character) (count : ℕ) → 0 < length bytes → IsIn 0x10 0x1D (get_or bytes 0 0)
-    → count ≤ 16 → count ≤ length bytes → (count < length bytes → IsIn 0x10 0x1D (get_or bytes count 0) → count ≡ 16) → length cells ≡ 16
-    → map character_code (take count cells) ≡ take count bytes → characters ≡ take count cells → Begins bytes (Number characters) count
-begins_number bytes characters cells count some first most inside whole size same taken =
-    let long : length characters ≡ count = ap length taken ∙ length-take-le count cells (omega arith) in
-    let none : count ≡ 0 → ⊥ =
-    λ e. let full = whole (omega arith) (subst (λ (n : ℕ). IsIn 0x10 0x1D (get_or bytes n 0)) (sym e) first) in omega arith in
-    begins_by bytes (Number characters) count inside (omega (arith, none), omega arith) (ap (map character_code) taken ∙ same)
-    (λ on. let next = goes_on bytes count on in long ∙ whole next.0 next.1)
-
--- One more character of a number is written.
-pub written_next : (cells : List Character) (bytes : List ℕ) (n : ℕ) (character : Character) → n < length cells → n < length bytes
-    → map character_code (take n cells) ≡ take n bytes → character_code character ≡ get_or bytes n 0
-    → map character_code (take (n + 1) (set cells n character)) ≡ take (n + 1) bytes
-written_next cells bytes n character room inside before same =
-    ap (λ k. map character_code (take k (set cells n character))) (add-one n)
-    ∙ ap (map character_code) (take-suc-set cells n character room)
-    ∙ map-append character_code (take n cells) (character ∷ [])
-    ∙ ap (λ front. front ++ character_code character ∷ []) before
-    ∙ ap (λ code. take n bytes ++ code ∷ []) same
-    ∙ sym (take-suc bytes n 0 inside)
-    ∙ ap (λ k. take k bytes) (sym (add-one n))

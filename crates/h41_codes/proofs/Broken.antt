@@ -111,18 +111,6 @@ broken_at k low high bytes fits from below lacks line count spelled =
     subst (λ (all : List ℕ). Needs (kind (byte all 0)) all) (sym same) (needs_of line (drop count bytes) spelled.valid) in
     lacks (subst (λ (n : ℕ). Needs n bytes) (kind_at k low high (byte bytes 0) fits from below) need)
 
--- An empty list of bytes begins with no line.
-some_bytes : (line : Line) → IsLine line → 0 < length (spelling line)
-some_bytes (Number []) valid = absurd (omega (arith, valid.0))
-some_bytes (Number (character ∷ characters)) valid = omega arith
-some_bytes Null valid = omega arith
-some_bytes line valid = omega arith
-
-pub broken_empty : (bytes : List ℕ) → length bytes ≡ 0 → BeginsNoLine bytes
-broken_empty bytes empty line count spelled =
-    let same = parted bytes line count spelled in
-    omega (arith, some_bytes line spelled.valid, ap length same, length-append (spelling line) (drop count bytes))
-
 -- Bytes that begin with no complete text do not satisfy the condition of a text.
 pub text_broken : (bytes : List ℕ) → 0 < length bytes → 0xF0 ≤ byte bytes 0 → LacksText bytes → TextFits bytes → ⊥
 text_broken bytes some from lacks fits =

@@ -28,7 +28,7 @@ at_most a b = elim (cases_lt b a) [
   | inr less ↦ inl less
 ]
 
-both : {A B : Type 0} → Either A → Either B → Either (A × B)
+pub both : {A B : Type 0} → Either A → Either B → Either (A × B)
 both (inl a) (inl b) = inl (a, b)
 both (inl a) (inr lacks) = inr (λ pair. lacks pair.1)
 both (inr lacks) other = inr (λ pair. lacks pair.0)
@@ -60,7 +60,7 @@ text_either most characters = elim (both (at_most (length characters) most) (are
   | inr lacks ↦ inr (λ text. lacks (text.fits, text.bytes))
 ]
 
-valid_either : (line : Line) → Either (IsLine line)
+pub valid_either : (line : Line) → Either (IsLine line)
 valid_either Null = inl tt
 valid_either (LocalLabel label) = below label 15
 valid_either (Number characters) = both (at_most 1 (length characters)) (at_most (length characters) 16)
@@ -81,7 +81,7 @@ valid_either (BranchTo branch distance backwards label) = both (below distance 4
 valid_either (Text characters) = text_either 15 characters
 
 -- It is decidable whether bytes are equal.
-bytes_either : (bytes others : List ℕ) → Either (bytes ≡ others)
+pub bytes_either : (bytes others : List ℕ) → Either (bytes ≡ others)
 bytes_either [] [] = inl refl
 bytes_either [] (other ∷ others) = inr (λ same. cc)
 bytes_either (byte ∷ bytes) [] = inr (λ same. cc)

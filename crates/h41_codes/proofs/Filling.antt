@@ -2,8 +2,6 @@
 use Rattle.std.proofs.Common.{◌≡◌, ℕ, suc, ◌+◌, ◌-◌, ◌<◌, ◌≤◌, List, [], ◌∷◌, ◌++◌, take, length, get_or, set, replicate, sym, ◌∙◌, ap}
 use Rattle.std.proofs.Common.{append_assoc, add-one, length-take-le, arith}
 use Rattle.std.proofs.Math.Seq.{take-suc, set-append_seam}
-use Rattle.std.proofs.lemmas.List.{take_at, take_all, length-append, length-replicate}
-use Rattle.h41_codes.specs.Cells.{IsPadded}
 
 -- The cells after the first n elements of a list are written.
 abbrev pub filling : {A : Type 0} → A → ℕ → List A → ℕ → List A
@@ -22,19 +20,3 @@ fill_next {A} blank other most items n inside room =
     ∙ set-append_seam (take n items) blank rest x
     ∙ sym (append_assoc (take n items) (x ∷ []) rest)
     ∙ ap (λ front. front ++ rest) (sym (take-suc items n other inside) ∙ ap (λ k. take k items) (sym (add-one n)))
-
--- All elements are written.
-pub fill_all : {A : Type 0} (blank : A) (most : ℕ) (items : List A) → length items ≤ most
-    → (take (length items) (filling blank most items (length items)) ≡ items)
-    × (length (filling blank most items (length items)) ≡ most)
-    × IsPadded blank most (length items) (filling blank most items (length items))
-fill_all blank most items room =
-    let n = length items in
-    let blanks = replicate (most - n) blank in
-    let whole : take n items ≡ items = take_all n items (omega arith) in
-    let size : length (take n items) ≡ n = ap length whole in
-    let front : take n (take n items ++ blanks) ≡ take n items = take_at (take n items) blanks n size in (
-      front ∙ whole,
-      length-append (take n items) blanks ∙ omega (arith, size, length-replicate (most - n) blank),
-      ap (λ xs. xs ++ blanks) (sym front),
-    )

@@ -3,8 +3,8 @@ use Rattle.std.proofs.Common.{◌≡◌, ℕ, ◌/◌, ◌≤◌, List, [], ◌�
 use Rattle.h41_codes.specs.declared.functions.ParameterFunction.{ParameterFunction}
 use Rattle.h41_codes.specs.declared.functions.ParameterFunction.TheVariants.{Recall}
 use Rattle.h41_codes.specs.declared.line.Line.{Line}
-use Rattle.h41_codes.specs.declared.line.Line.TheVariants.{Null, LocalLabel, Number, Named, Register, Plain, WithOperand, Module}
-use Rattle.h41_codes.specs.declared.line.Line.TheVariants.{BranchIndirect, ShortGoTo, GlobalLabel, End, FinalEnd, BranchTo, Text}
+use Rattle.h41_codes.specs.declared.line.Line.TheVariants.{Null, LocalLabel, Number, Named, Register, Plain, WithOperand}
+use Rattle.h41_codes.specs.declared.line.Line.TheVariants.{BranchTo}
 use Rattle.h41_codes.specs.Codes.{parameter_function_code}
 use Rattle.h41_codes.specs.ByteGrammar.{spelling, IsLine, GoesOn}
 use Rattle.h41_codes.specs.ByteLaws.{IsNumber, NumberBegins, NullBegins}
@@ -30,15 +30,9 @@ stops (Named function name) rest valid on = absurd (omega (arith, on.1, (name_fu
 stops (Register function register) rest valid on = absurd (omega (arith, on.1, (register_range function register valid).0))
 stops (Plain function) rest valid on = absurd (omega (arith, on.1, (function_range function).0))
 stops (WithOperand function operand) rest valid on = absurd (omega (arith, on.1, operand_range function))
-stops (Module number entry) rest valid on = absurd (omega (arith, on.1))
-stops (BranchIndirect branch register) rest valid on = absurd (omega (arith, on.1))
-stops (ShortGoTo label distance) rest valid on = absurd (omega (arith, on.1))
-stops (GlobalLabel link key name) rest valid on = absurd (omega (arith, on.1))
-stops (End link marks) rest valid on = absurd (omega (arith, on.1))
-stops (FinalEnd link marks) rest valid on = absurd (omega (arith, on.1))
 stops (BranchTo branch distance backwards label) rest valid on =
     absurd (omega (arith, on.1, (branch_range branch (distance / 256) (omega (arith, valid.0))).0))
-stops (Text characters) rest valid on = absurd (omega (arith, on.1))
+stops line rest valid on = absurd (omega (arith, on.1))
 
 pub number_begins : NumberBegins
 number_begins line rest valid = (stops line rest valid, goes line rest valid)
@@ -46,22 +40,15 @@ number_begins line rest valid = (stops line rest valid, goes line rest valid)
 -- No other line begins with the byte of the null.
 only_null : (line : Line) (rest : List ℕ) → IsLine line → byte (spelling line ++ rest) 0 ≡ 0x00 → line ≡ Null
 only_null Null rest valid null = refl
-only_null (LocalLabel label) rest valid null = absurd (omega (arith, null))
 only_null (Number []) rest valid null = absurd (omega (arith, valid.0))
 only_null (Number (character ∷ characters)) rest valid null = absurd (omega (arith, null, (character_range character).0))
 only_null (Named function name) rest valid null = absurd (omega (arith, null, (name_function_range function).0))
 only_null (Register function register) rest valid null = absurd (omega (arith, null, (register_range function register valid).0))
 only_null (Plain function) rest valid null = absurd (omega (arith, null, (function_range function).0))
 only_null (WithOperand function operand) rest valid null = absurd (omega (arith, null, operand_range function))
-only_null (Module number entry) rest valid null = absurd (omega (arith, null))
-only_null (BranchIndirect branch register) rest valid null = absurd (omega (arith, null))
-only_null (ShortGoTo label distance) rest valid null = absurd (omega (arith, null))
-only_null (GlobalLabel link key name) rest valid null = absurd (omega (arith, null))
-only_null (End link marks) rest valid null = absurd (omega (arith, null))
-only_null (FinalEnd link marks) rest valid null = absurd (omega (arith, null))
 only_null (BranchTo branch distance backwards label) rest valid null =
     absurd (omega (arith, null, (branch_range branch (distance / 256) (omega (arith, valid.0))).0))
-only_null (Text characters) rest valid null = absurd (omega (arith, null))
+only_null line rest valid null = absurd (omega (arith, null))
 
 pub null_begins : NullBegins
 null_begins line rest valid = (only_null line rest valid, λ null. ap (λ (l : Line). byte (spelling l ++ rest) 0) null)

@@ -72,10 +72,8 @@ none_made s t (suc made) why none tries = absurd (omega (arith, none))
 
 -- Why a run ends.
 pub unrefused : (stop : Stop) → ((why : CalculatorRefusal) → stop ≡ Refused why → ⊥) → refusal_of stop ≡ None
-unrefused Idle other = refl
-unrefused Break other = refl
-unrefused Limit other = refl
 unrefused (Refused why) other = absurd (other why refl)
+unrefused stop other = refl
 
 -- A stop after a step is not for a refusal.
 stopped : (behind idle set : Bool) (stop : Stop)

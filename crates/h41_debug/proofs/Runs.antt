@@ -110,9 +110,7 @@ made_none limit s = record {
 module _ (limit made : ℕ) (t : BenchState) (running : is_idle t.calculator.mode ≡ false) where
   not_idle : (other : Stop) → turn_of other < 1 → StopsFor limit made t other → ⊥
   not_idle Idle below holds = let idle : is_idle t.calculator.mode ≡ true = holds in cc
-  not_idle Break below holds = absurd (omega (arith, below))
-  not_idle Limit below holds = absurd (omega (arith, below))
-  not_idle (Refused why) below holds = absurd (omega (arith, below))
+  not_idle other below holds = absurd (omega (arith, below))
 
   module _ (clear : 1 ≤ made → is_set t.breakpoints (location_of t.calculator) ≡ false) where
     not_broken : (other : Stop) → turn_of other < 2 → StopsFor limit made t other → ⊥
@@ -319,18 +317,7 @@ module _ (same_refusal : StepRefusalIsDetermined) (same_step : StepIsDetermined)
   same_stop limit made t (Refused why) (Refused other) turn p q =
       let same : Some why ≡ Some other = same_refusal t.calculator (Some why) (Some other) p q in
       let inner : why ≡ other = cc in ap Refused inner
-  same_stop limit made t Idle Break turn p q = absurd (omega (arith, turn))
-  same_stop limit made t Idle Limit turn p q = absurd (omega (arith, turn))
-  same_stop limit made t Idle (Refused other) turn p q = absurd (omega (arith, turn))
-  same_stop limit made t Break Idle turn p q = absurd (omega (arith, turn))
-  same_stop limit made t Break Limit turn p q = absurd (omega (arith, turn))
-  same_stop limit made t Break (Refused other) turn p q = absurd (omega (arith, turn))
-  same_stop limit made t Limit Idle turn p q = absurd (omega (arith, turn))
-  same_stop limit made t Limit Break turn p q = absurd (omega (arith, turn))
-  same_stop limit made t Limit (Refused other) turn p q = absurd (omega (arith, turn))
-  same_stop limit made t (Refused why) Idle turn p q = absurd (omega (arith, turn))
-  same_stop limit made t (Refused why) Break turn p q = absurd (omega (arith, turn))
-  same_stop limit made t (Refused why) Limit turn p q = absurd (omega (arith, turn))
+  same_stop limit made t why other turn p q = absurd (omega (arith, turn))
 
   not_longer : (limit : ℕ) (s t u : BenchState) (made count : ℕ) (why other : Stop) → Run limit s t made why → Run limit s u count other
       → made < count → ⊥

@@ -28,11 +28,10 @@ use Rattle.h41_refusals.specs.declared.refusal.Refusal.TheVariants.{Line}
 use Rattle.h41_deck.specs.declared.replies.Outcome.{Outcome}
 use Rattle.h41_deck.specs.Answers.{ending_line, ends_by, printed_text, says_or_ends}
 use Rattle.h41_pages.specs.PageMap.{PageMap}
-use Rattle.h41_refusals.specs.declared.fault.CommandFault.{CommandFault}
 use Rattle.h41_deck.specs.Listings.{listing_at}
 use Rattle.h41_deck.specs.private.Blocks.{LoadsTaken, PlugsTaken}
 use Rattle.h41_deck.specs.Replies.{LoadsBlock, LoadsBytes, Plugs, Reply, item_takes_memory, takes_memory}
-use Rattle.h41_deck.specs.private.Writing.{SaysAlone, IsListed, IsRefusalOf, IsShown, LeavesText, Replies, RepliesInPart, SaysText, item_of}
+use Rattle.h41_deck.specs.private.Writing.{IsListed, IsRefusalOf, IsShown, Replies, RepliesInPart, SaysText, item_of}
 use Rattle.h41_deck.specs.private.Writing.{made_text, outcome_in, text_in}
 
 -- A command with a block that is not refused allocates memory if the command does.
@@ -95,13 +94,6 @@ loads_taken block s t bytes made refusal means same loads = record {
   said = means.said;
   loads = (Ok bytes, subst (Means means.kind means.values) same means.means, loads);
 }
-
--- A command without a block.
-pub alone_text : {W : Type 0} (result : Result (Option Refusal) CommandFault) (values : Result (List ℕ) LineRefusal) (command : Command)
-    (s t : BenchState) (contents : W → Option (List ℕ)) (old new : W) → None ≡ result_err values
-    → SaysAlone result command s t contents old new → LeavesText result (with_values values command) s t contents old new
-alone_text result (Ok given) command s t contents old new e does = does given
-alone_text result (Err why) command s t contents old new e does = cc
 
 -- It prints nothing.
 pub silent_alone : (command : Command) (values : List ℕ) (s t : BenchState) (old : Option (List ℕ)) (refusal : Option Refusal)

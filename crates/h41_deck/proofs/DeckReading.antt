@@ -1,7 +1,6 @@
 -- What was read of a deck so far, and the items that its lines specify.
-use Rattle.std.proofs.Common.{inl, inr, ◌≡◌, ℕ, ◌+◌, ◌<◌, ◌≤◌, Bool, true, false, List, [], ◌∷◌, ◌++◌, length, drop, take}
-use Rattle.std.proofs.Common.{not, if◌then◌else◌, Option, Some, None, IfSome, Ok, Err, refl, sym, subst}
-use Rattle.std.proofs.Common.{ap, ◌∙◌, arith, append_assoc}
+use Rattle.std.proofs.Common.{inl, inr, ◌≡◌, ℕ, ◌+◌, ◌<◌, ◌≤◌, Bool, true, false, List, [], ◌∷◌, ◌++◌, length, drop, take, not}
+use Rattle.std.proofs.Common.{if◌then◌else◌, Option, Some, None, IfSome, Ok, Err, refl, sym, subst, ap, ◌∙◌, arith, append_assoc}
 use Rattle.std.specs.List.{list_any}
 use Rattle.std.specs.Io.KnownBytes.{Consumes, IsAtEnd}
 use Rattle.std.proofs.lemmas.Bool.{false_from_ne_true, ltb-false, or_from, or_parts}

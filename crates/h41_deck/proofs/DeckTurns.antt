@@ -13,11 +13,11 @@ use Rattle.h41_commands.specs.FirstLines.{opens_block}
 use Rattle.h41_commands.specs.private.BlockReading.{HearsBlock}
 use Rattle.h41_commands.specs.private.Entries.{what_is_spelled}
 use Rattle.h41_commands.specs.private.ItemReading.{HearsFirst, HearsNext, Spell, SpellNoneEnded}
-use Rattle.h41_commands.specs.declared.commands.FirstWord.TheVariants.{Opening, Plain, Unknown}
+use Rattle.h41_commands.specs.declared.commands.FirstWord.TheVariants.{Opening}
 use Rattle.h41_commands.specs.declared.fault.ItemFault.{ItemFault}
 use Rattle.h41_commands.specs.declared.item.Item.{Item}
 use Rattle.h41_commands.specs.declared.line.LineKind.{LineKind}
-use Rattle.h41_commands.specs.declared.line.LineKind.TheVariants.{Long, Named}
+use Rattle.h41_commands.specs.declared.line.LineKind.TheVariants.{Named}
 use Rattle.h41_commands.proofs.HeardItems.{heard_block, heard_block_fault}
 use Rattle.h41_commands.specs.Items.{Spelled, commands, is_open, without_open_block}
 use Rattle.h41_debug.specs.Bench.{BenchState, start}
@@ -147,18 +147,14 @@ module _ (before mid after : Option (List ReadEvent)) (written between : Option 
       → HearsFirst {E = LineReadFault} (Ok (Some kind)) before mid written old first_at → (item : Item)
       → HearsBlock {E = ItemFault} (Ok item) (command_of (words_of (line_in first_at))) mid after between first_at new
       → HearsNext (Ok (Some (what_is_spelled item))) before after written old new
-  block_heard Long kept opens first item block = cc
   block_heard (Named (Opening kind)) kept opens first item block =
       heard_block before mid after written between old first_at new kind kept first item block
-  block_heard (Named (Plain kind)) kept opens first item block = cc
-  block_heard (Named Unknown) kept opens first item block = cc
+  block_heard kind kept opens first item block = cc
 
   pub block_unheard : (kind : LineKind) → Keeps written between → opens_block kind ≡ true
       → HearsFirst {E = LineReadFault} (Ok (Some kind)) before mid written old first_at → (why : ItemFault)
       → HearsBlock (Err why) (command_of (words_of (line_in first_at))) mid after between first_at new
       → HearsNext (Err why) before after written old new
-  block_unheard Long kept opens first why block = cc
   block_unheard (Named (Opening kind)) kept opens first why block =
       heard_block_fault before mid after written between old first_at new kind kept first why block
-  block_unheard (Named (Plain kind)) kept opens first why block = cc
-  block_unheard (Named Unknown) kept opens first why block = cc
+  block_unheard kind kept opens first why block = cc

@@ -1,6 +1,5 @@
 -- Why a deck determines what it prints, if steps, loads, blocks and lists of lines are determined.
-use Rattle.std.proofs.Common.{◌≡◌, ℕ, Bool, Result, Option, Ok, Err, List, [], ◌∷◌, ◌++◌, flat_map, refl, sym, ap}
-use Rattle.std.proofs.Common.{subst, ◌∙◌}
+use Rattle.std.proofs.Common.{◌≡◌, ℕ, Bool, Result, Option, Ok, Err, List, [], ◌∷◌, ◌++◌, flat_map, refl, sym, ap, subst, ◌∙◌}
 use Rattle.std.specs.Prelude.{option_map}
 use Rattle.std.proofs.lemmas.Grind.{flat_map-append}
 use Rattle.h41_commands.specs.BlockLaws.{FillingIsDetermined, MeaningIsDetermined}
@@ -66,16 +65,9 @@ module _ (same_steps : StepsAreDetermined) (same_load : LoadIsDetermined) (same_
   same_view views.Lines s a b p q =
       let lines = same_list s.calculator.nut.ram 0 p.1.0 q.1.0 p.1.1 q.1.1 in
       p.2 ∙ ap (λ (text : List ℕ). Ok text) (p.1.2 ∙ ap (flat_map listed_line) lines ∙ sym q.1.2) ∙ sym q.2
-  same_view views.Cpu s a b p q = p ∙ sym q
-  same_view (views.Register address) s a b p q = p ∙ sym q
-  same_view views.Stack s a b p q = p ∙ sym q
-  same_view views.Flags s a b p q = p ∙ sym q
-  same_view views.Alpha s a b p q = p ∙ sym q
   same_view views.Display s a b p q =
       p.2 ∙ ap (λ (text : List ℕ). Ok (line_of text)) (same_display s.calculator p.0 q.0 p.1 q.1) ∙ sym q.2
-  same_view views.Position s a b p q = p ∙ sym q
-  same_view (views.Image page bank) s a b p q = p ∙ sym q
-  same_view views.Functions s a b p q = p ∙ sym q
+  same_view view s a b p q = p ∙ sym q
 
   same_reply : (command : Command) (values : List ℕ) (s t u : BenchState) (a b : Answer) → Reply command values s t a
       → Reply command values s u b → (t ≡ u) × (a ≡ b)
@@ -87,9 +79,6 @@ module _ (same_steps : StepsAreDetermined) (same_load : LoadIsDetermined) (same_
       same_bytes q.0 s t u a b (subst (λ bytes. LoadsBytes bytes s t a) same p.2) q.2
   same_reply (commands.Size count) values s t u a b p q =
       same_call (λ old. Becomes (size_makes old count) old) (same_size count) s t u a b p q
-  same_reply (commands.Unplug page) values s t u a b p q = (p.0 ∙ sym q.0, p.1 ∙ sym q.1)
-  same_reply commands.Reset values s t u a b p q = (p.0 ∙ sym q.0, p.1 ∙ sym q.1)
-  same_reply (commands.Call address) values s t u a b p q = (p.0 ∙ sym q.0, p.1 ∙ sym q.1)
   same_reply (commands.Step count) values s t u a b p q =
       let both = same_steps count s t u p.0 q.0 p.1 q.1 in
       (both.0, p.2 ∙ ap (λ (why : Option CalculatorRefusal). ends_by (option_map Calculator why)) both.1 ∙ sym q.2)
@@ -102,14 +91,12 @@ module _ (same_steps : StepsAreDetermined) (same_load : LoadIsDetermined) (same_
         p.3 ∙ ap (λ (lines : List ℕ). says_and_ends lines (option_map Calculator p.1)) all.1
             ∙ ap (λ (why : Option CalculatorRefusal). says_and_ends q.0 (option_map Calculator why)) all.2 ∙ sym q.3,
       )
-  same_reply (commands.Break location) values s t u a b p q = (p.0 ∙ sym q.0, p.1 ∙ sym q.1)
-  same_reply (commands.Unbreak location) values s t u a b p q = (p.0 ∙ sym q.0, p.1 ∙ sym q.1)
   same_reply (commands.Key keys) values s t u a b p q =
       let both = same_keys keys s t u p.0 q.0 p.1 q.1 in
       (both.0, p.2 ∙ ap (λ (why : Option CalculatorRefusal). ends_by (option_map Calculator why)) both.1 ∙ sym q.2)
-  same_reply (commands.List address count) values s t u a b p q = (p.0 ∙ sym q.0, p.1 ∙ sym q.1)
   same_reply (commands.Show view) values s t u a b p q =
       (p.0 ∙ sym q.0, p.3 ∙ ap says_or_ends (same_view view s p.1 q.1 p.2 q.2) ∙ sym q.3)
+  same_reply command values s t u a b p q = (p.0 ∙ sym q.0, p.1 ∙ sym q.1)
 
   same_item : (item : Spelled) (s t u : BenchState) (a b : Answer) → ItemReply item s t a → ItemReply item s u b → (t ≡ u) × (a ≡ b)
   same_item (Err why) s t u a b p q = (p.0 ∙ sym q.0, p.1 ∙ sym q.1)

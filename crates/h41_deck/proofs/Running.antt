@@ -1,7 +1,6 @@
 -- How a run and a trace are answered.
-use Rattle.std.proofs.Common.{◌≡◌, Ok, ℕ, suc, List, [], ◌++◌, Option, Some, None, refl, sym}
-use Rattle.std.proofs.Common.{ap, subst, append-nil, append_assoc, ◌∙◌}
-use Rattle.std.proofs.KnownBytes.{Appends-nil, Appends-trans}
+use Rattle.std.proofs.Common.{◌≡◌, Ok, ℕ, suc, List, [], ◌++◌, Option, Some, None, refl, sym, ap, subst, append-nil, append_assoc, ◌∙◌}
+use Rattle.std.proofs.KnownBytes.{Appends-trans}
 use Rattle.std.specs.Prelude.{option_map}
 use Rattle.std.specs.Io.KnownBytes.{Appends}
 use Rattle.h41_commands.specs.declared.commands.Command.TheVariants as commands
@@ -13,22 +12,11 @@ use Rattle.h41_debug.specs.declared.run.Stop.{Stop}
 use Rattle.h41_ends.specs.Ends.{AppendsPart}
 use Rattle.h41_xrom.specs.Calculator.{RefusesStep, Step}
 use Rattle.h41_xrom.specs.declared.refusal.CalculatorRefusal.{CalculatorRefusal}
-use Rattle.h41_refusals.specs.declared.refusal.Refusal.{Refusal}
 use Rattle.h41_refusals.specs.declared.refusal.Refusal.TheVariants.{Calculator}
 use Rattle.h41_deck.specs.Answers.{Answer, ending_line, printed_text, says_and_ends}
 use Rattle.h41_deck.specs.Runs.{run_answer, ran_text, stop_refusal}
 use Rattle.h41_deck.specs.private.Writing.{RepliesInPart, SaysText, IsTraceLine}
 use Rattle.h41_deck.proofs.Commanded.{later_part, part_longer}
-
--- The line of a run is written.
-pub run_said : (limit made : ℕ) (why : Stop) (values : List ℕ) (s t : BenchState) (old new : Option (List ℕ)) (refusal : Option Refusal)
-    → Run limit s t made why → refusal ≡ stop_refusal why → Appends old new (ran_text made why)
-    → SaysText (Ok (commands.Run limit, values)) s t old new refusal
-run_said limit made why values s t old new refusal run is written = record {
-  text = ran_text made why;
-  reply = (made, why, run, λ i. record { text = ran_text made why; refusal = is i });
-  written = written;
-}
 
 pub run_in_part : (limit made : ℕ) (why : Stop) (values : List ℕ) (s t : BenchState) (old new : Option (List ℕ))
     → Run limit s t made why → AppendsPart old new (ran_text made why) → RepliesInPart (Ok (commands.Run limit, values)) s t old new
@@ -44,9 +32,6 @@ pub record TracesOn (count left : ℕ) (s mid : BenchState) (old now : Option (L
   pub written : Appends old now lines
   pub goes_on : (t : BenchState) (more : List ℕ) (refusal : Option CalculatorRefusal) → Traces left mid t more refusal
       → Traces count s t (lines ++ more) refusal
-
-pub traces_none : (count : ℕ) (s : BenchState) (old : Option (List ℕ)) → TracesOn count count s s old old
-traces_none count s old = record { lines = []; written = Appends-nil old; goes_on = λ t more refusal rest. rest }
 
 -- A step whose line is written and that is made, and one whose line is written and that is refused.
 pub traces_more : (count left : ℕ) (s mid next : BenchState) (old before now : Option (List ℕ)) (line : List ℕ)

@@ -17,9 +17,9 @@ use Rattle.h41_ends.specs.declared.input_lines.InputLines.{InputLines}
 use Rattle.h41_commands.specs.Items.{line_spelled}
 use Rattle.h41_commands.specs.declared.commands.Command.{Command}
 use Rattle.h41_commands.specs.declared.commands.Command.TheVariants as commands
-use Rattle.h41_commands.specs.declared.commands.FirstWord.TheVariants.{Opening, Plain, Unknown}
+use Rattle.h41_commands.specs.declared.commands.FirstWord.TheVariants.{Opening}
 use Rattle.h41_commands.specs.declared.commands.View.TheVariants as views
-use Rattle.h41_commands.specs.declared.line.LineKind.TheVariants.{Long, Named}
+use Rattle.h41_commands.specs.declared.line.LineKind.TheVariants.{Named}
 use Rattle.h41_lines.specs.Words.{words_of}
 use Rattle.h41_debug.specs.Bench.{BenchState}
 use Rattle.h41_debug.specs.Positions.{position_text}
@@ -67,16 +67,12 @@ module _ (before mid after : Option (List ℕ)) (old first_at new : InputLines) 
       → ReadsFirst {E = LineReadFault} (Ok (Some kind)) before mid old first_at → (item : Item)
       → ReadsBlock {E = ItemFault} (Ok item) (command_of (words_of (line_in first_at))) mid after first_at new
       → ReadsNext (Ok (Some (what_is_spelled item))) before after old new
-  block_next Long opens first item block = cc
   block_next (Named (Opening kind)) opens first item block = first_block before mid after old first_at new kind first item block
-  block_next (Named (Plain kind)) opens first item block = cc
-  block_next (Named Unknown) opens first item block = cc
+  block_next kind opens first item block = cc
 
   pub block_failed : (kind : LineKind) → opens_block kind ≡ true
       → ReadsFirst {E = LineReadFault} (Ok (Some kind)) before mid old first_at → (why : ItemFault)
       → ReadsBlock (Err why) (command_of (words_of (line_in first_at))) mid after first_at new
       → ReadsNext (Err why) before after old new
-  block_failed Long opens first why block = cc
   block_failed (Named (Opening kind)) opens first why block = block_fault before mid after old first_at new kind first why block
-  block_failed (Named (Plain kind)) opens first why block = cc
-  block_failed (Named Unknown) opens first why block = cc
+  block_failed kind opens first why block = cc

@@ -4,13 +4,10 @@ use Rattle.std.specs.Prelude.{MatchBool}
 use Rattle.std.specs.Option.{option_map}
 use Rattle.h41_codes.specs.declared.line.Line.{Line}
 use Rattle.h41_editor.specs.Changes.{Changed, Deletes, DeletesAt, DeletesLine, Inserts, InsertsBefore, InsertsBy, Replaces, ReplacesAt}
-use Rattle.h41_editor.specs.Changes.{ShowsFront}
-use Rattle.h41_editor.specs.Changes.{ShowsNew}
-use Rattle.h41_editor.specs.Changes.{showing_line, shown_in_front}
+use Rattle.h41_editor.specs.Changes.{ShowsFront, ShowsNew, showing_line, shown_in_front}
 use Rattle.h41_editor.specs.EditorLaws.{ChangeIsDetermined, MoveIsDetermined, NumberedIsDetermined, TextIsDetermined}
 use Rattle.h41_editor.specs.Moves.{EndsBy, GoesToEnd, ShowsAfterLine, ShowsAt, ShowsBefore, ShowsBeforeLine, ShowsEnd, ShowsInFront}
-use Rattle.h41_editor.specs.Moves.{ShowsNext}
-use Rattle.h41_editor.specs.Moves.{ShowsStart, is_last, returns_kept, shown_end}
+use Rattle.h41_editor.specs.Moves.{ShowsNext, ShowsStart, is_last, returns_kept, shown_end}
 use Rattle.h41_editor.specs.NumberedLines.{Numbers, with_number}
 use Rattle.h41_editor.specs.ProgramText.{ShowsLine, line_00_text, text_of, unknown_text}
 use Rattle.h41_editor.specs.declared.numbered.NumberedLine.{NumberedLine}

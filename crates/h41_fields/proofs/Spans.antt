@@ -137,13 +137,9 @@ span_mantissa_sign p q active = record { first = refl; last = refl; each = refl 
 pub span_of_other : (field : Field) (p q : ℕ) (active : Pointer) → active_place p q active < 14 → is_pointed field ≡ true
     → (field ≡ AtPointer → ⊥) → (field ≡ PToQ → ⊥) → IsSpanOf field p q active 0 (active_place p q active)
 span_of_other AtPointer p q active inside pointed first second = absurd (first refl)
-span_of_other SignAndExponent p q active inside pointed first second = cc
 span_of_other ToPointer p q active inside pointed first second = span_to_pointer p q active inside
-span_of_other All p q active inside pointed first second = cc
 span_of_other PToQ p q active inside pointed first second = absurd (second refl)
-span_of_other ExponentSign p q active inside pointed first second = cc
-span_of_other Mantissa p q active inside pointed first second = cc
-span_of_other MantissaSign p q active inside pointed first second = cc
+span_of_other field p q active inside pointed first second = cc
 
 -- Each number of a list is at least this.
 abbrev AllFrom : ℕ → List ℕ → Type 0

@@ -1,8 +1,6 @@
 -- Bytes, and the registers that they make.
-use Rattle.std.proofs.Common.{◌≡◌, ℕ, zero, suc, ◌+◌, ◌-◌, ◌*◌, ◌/◌, ◌%◌, ◌^◌, ◌<◌, Bool, true, false, List, [], ◌∷◌, ◌++◌, map}
-use Rattle.std.proofs.Common.{length}
-use Rattle.std.proofs.Common.{drop, replicate, slice_index, if◌then◌else◌, Option, Some, None, refl, arith}
-use Rattle.std.proofs.Common.{length-append}
+use Rattle.std.proofs.Common.{◌≡◌, ℕ, zero, suc, ◌+◌, ◌-◌, ◌*◌, ◌/◌, ◌%◌, ◌^◌, ◌<◌, Bool, true, false, List, [], ◌∷◌, ◌++◌, map, length}
+use Rattle.std.proofs.Common.{drop, replicate, slice_index, if◌then◌else◌, Option, Some, None, refl, arith, length-append}
 use Rattle.std.specs.Prelude.{◌==◌, nat_lt, nat_le, All, reverse, ℤ, unsigned_abs}
 use Rattle.std.specs.Fmt.{decimal, digit_glyph, digits, digits_onto}
 use Rattle.std.proofs.lemmas.List.{get_or-reverse, length-reverse}

@@ -3,16 +3,15 @@ use Rattle.std.proofs.Common.{◌≡◌, ℕ, Bool, true, false, List, Option, S
 use Rattle.h41_codes.specs.declared.functions.Function.{Function}
 use Rattle.h41_codes.specs.declared.line.Line.{Line}
 use Rattle.h41_codes.specs.declared.line.Line.TheVariants.{Module, Plain}
-use Rattle.h41_focal.specs.Destinations.{Destination, Arrives, Halts, HasNoLabel, HasNoLine, Manner, Runs, Seeks, Stays, Stepped}
-use Rattle.h41_focal.specs.Destinations.{Tells, Typed}
+use Rattle.h41_focal.specs.Destinations.{Destination, Halts, HasNoLabel, HasNoLine, Manner, Stepped}
+use Rattle.h41_focal.specs.Destinations.{Typed}
 use Rattle.h41_focal.specs.LineLaws.{LineIsDetermined, StepIsDetermined, TypedIsDetermined}
 use Rattle.h41_focal.specs.LineStep.{Applies, AppliesTo, AppliesWith, CarriesOut, ComputesIn, Ends, Left, Stands, StandsAt, StepsAs}
+use Rattle.h41_focal.specs.LineStep.{StepsLine, TakesLine, TypesLine, Works, answer_of_showing, left_by_fault, named_by, with_row}
 use Rattle.h41_focal.specs.OutsideCalls as sources
 use Rattle.h41_focal.specs.OutsideCalls.{CallsName, CarriesLine, CarriesNamed, CarriesStanding, CarriesWhole, GoesOn, GoesOnFrom}
 use Rattle.h41_focal.specs.OutsideCalls.{LineSource}
 use Rattle.h41_positions.specs.FocalState.{Machine}
-use Rattle.h41_focal.specs.LineStep.{StepsLine, TakesLine}
-use Rattle.h41_focal.specs.LineStep.{TypesLine, Works, answer_of_showing, left_by_fault, named_by, with_row}
 use Rattle.h41_focal.specs.Outcomes.{Answer}
 use Rattle.h41_focal.specs.Outcomes as answers
 use Rattle.h41_pages.specs.FunctionTables.{function_of_name}
@@ -38,31 +37,19 @@ use Rattle.h41_laws_calculator.specs.ProgramAnswers.{MemoryHasOneAnswer, Positio
 use Rattle.h41_laws_calculator.specs.LineValues.{ValueHasOneRegister}
 use Rattle.h41_laws_calculator.specs.LineEnds.{LineHasOneEnd, NameHasOneFunction}
 use Rattle.h41_laws_calculator.specs.LineOutcomes.{StepHasOneOutcome, TypedHasOneOutcome}
+use Rattle.h41_laws_calculator.proofs.Chosen.{alone, either}
 use Rattle.h41_laws_calculator.proofs.Leads.{NextOrNone, goes}
 use Rattle.h41_pages.specs.PageMap.{PageMap}
-
--- Either of two answers, by a test.
-either : {A : Type 0} (t : Bool) (Then Else : A → Type 0) → Has Then → Has Else → Has (λ answer. MatchBool t (Then answer) (Else answer))
-either true Then Else first second = first
-either false Then Else first second = second
-
-alone : {A : Type 0} (other : A) → Has (λ answer. answer ≡ other)
-alone other = record { answer = other; right = refl }
 
 -- A test must hold for one answer.
 where_true : {A : Type 0} (t : Bool) (Then : A → Type 0) (other : A) → Has Then → Has (λ answer. MatchBool t (Then answer) (answer ≡ other))
 where_true t Then other found = either t Then (λ answer. answer ≡ other) found (alone other)
 
 ends : (how : Manner) (old new : Machine) (answer : Answer) (to : Destination) → Has (Ends how old new answer to)
-ends how old new answer (Arrives position returns) = alone _
-ends (Stepped next) old new answer (Halts start) = alone _
 ends Typed old new answer (Halts start) = alone _
-ends how old new answer Stays = alone _
-ends how old new answer (Tells holds) = alone _
-ends how old new answer (Runs position) = alone _
-ends how old new answer (Seeks name) = alone _
 ends how old new answer HasNoLabel = alone (Ok (left_by_fault how old Nonexistent))
 ends how old new answer HasNoLine = alone (Err BrokenProgram)
+ends how old new answer to = alone _
 
 module _ (values : ValueHasOneRegister) (next_or_none : NextOrNone) (onward : LinesHaveNext) (lines : PositionHasOne LineAt)
     (starts : PositionHasOne StartOf) (locals : PositionHasOneEach LocalFrom) (names : MemoryHasOneAnswer (Option ℕ)) where

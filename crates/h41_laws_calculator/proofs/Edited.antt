@@ -4,8 +4,7 @@ use Rattle.h41_codes.specs.declared.line.Line.{Line}
 use Rattle.h41_editor.specs.Changes.{Changed, Deletes, DeletesAt, DeletesLine, Inserts, InsertsBefore, InsertsBy, Replaces, ReplacesAt}
 use Rattle.h41_editor.specs.Changes.{ShowsFront, ShowsNew, shown_in_front}
 use Rattle.h41_editor.specs.Moves.{EndsBy, GoesToEnd, ShowsAfterLine, ShowsAt, ShowsBefore, ShowsBeforeLine, ShowsEnd, ShowsInFront}
-use Rattle.h41_editor.specs.Moves.{ShowsNext}
-use Rattle.h41_editor.specs.Moves.{ShowsStart, is_last, shown_end}
+use Rattle.h41_editor.specs.Moves.{ShowsNext, ShowsStart, is_last, shown_end}
 use Rattle.h41_editor.specs.declared.numbered.NumberedLine.{NumberedLine}
 use Rattle.h41_positions.specs.FocalState.{Machine, at_line}
 use Rattle.h41_pages.specs.PageMap.{PageMap}

@@ -148,9 +148,6 @@ module _ (ends : LineHasOneEnd) (names : NameHasOneFunction) (labels : MemoryHas
   -- Each action.
   acts : (pages : PageMap) (program_mode : Bool) (action : Action) (machine : Machine) → StoresInner action
       → is_sound machine.memory ≡ true → Has (Acts pages program_mode action machine)
-  acts pages program_mode actions.Nothing machine inner sound = alone _
-  acts pages program_mode actions.Stop machine inner sound = alone _
-  acts pages program_mode actions.Run machine inner sound = alone _
   acts pages program_mode actions.Step machine inner sound =
       either program_mode (Edits (ShowsNext pages) machine) (Carries sources.Program pages machine)
       (edits (ShowsNext pages) machine (one_there (next pages machine))) (carries sources.Program pages machine)
@@ -165,11 +162,7 @@ module _ (ends : LineHasOneEnd) (names : NameHasOneFunction) (labels : MemoryHas
   acts pages program_mode (actions.BeginNumber text) machine inner sound = begins text machine
   acts pages program_mode (actions.ChangeNumber text) machine inner sound = changes text machine
   acts pages program_mode actions.EndNumber machine inner sound = carries (sources.Keys (lines.Plain ClearX)) pages machine
-  acts pages program_mode actions.ToggleAlpha machine inner sound = alone _
-  acts pages program_mode (actions.BeginText letter) machine inner sound = alone _
-  acts pages program_mode (actions.AddLetter letter) machine inner sound = alone _
-  acts pages program_mode actions.TakeLetter machine inner sound = alone _
-  acts pages program_mode actions.ClearAlpha machine inner sound = alone _
+  acts pages program_mode action machine inner sound = alone _
 
   -- The result of a key, in a mode.
   abbrev Makes : CalculatorState → Key → Action → Input → Result CalculatorState CalculatorRefusal → Type 0

@@ -1,6 +1,5 @@
 -- The result of a load and of a new size, and the text of the display.
-use Rattle.std.proofs.Common.{◌≡◌, ℕ, List, [], Option, Some, None, Result}
-use Rattle.std.proofs.Common.{Err, MatchOption, refl, ap, ◌∙◌}
+use Rattle.std.proofs.Common.{◌≡◌, ℕ, List, [], Option, Some, None, Result, Err, MatchOption, refl, ap, ◌∙◌}
 use Rattle.std.specs.Prelude.{◌++◌}
 use Rattle.std.specs.Result.{result_err, result_unwrap_or}
 use Rattle.h41_editor.specs.ProgramText.{ShowsProgram}

@@ -4,8 +4,7 @@ use Rattle.std.specs.Option.{option_map}
 use Rattle.h41_editor.specs.Changes.{Changed, Deletes, DeletesAt, DeletesLine, ShowsFront, shown_in_front}
 use Rattle.h41_editor.specs.EditorLaws.{MoveIsDetermined}
 use Rattle.h41_editor.specs.Moves.{EndsBy, GoesToEnd, ShowsAfterLine, ShowsAt, ShowsBefore, ShowsBeforeLine, ShowsEnd, ShowsInFront}
-use Rattle.h41_editor.specs.Moves.{ShowsNext}
-use Rattle.h41_editor.specs.Moves.{ShowsStart, is_last, shown_end}
+use Rattle.h41_editor.specs.Moves.{ShowsNext, ShowsStart, is_last, shown_end}
 use Rattle.h41_editor.specs.NumberedLines.{HasNumbered, Numbers, with_number}
 use Rattle.h41_editor.specs.ProgramText.{ShowsLine, ShowsProgram, line_00_text, text_of, unknown_text}
 use Rattle.h41_editor.specs.declared.numbered.NumberedLine.{NumberedLine}

@@ -20,17 +20,10 @@ AreDigits digits = AllByRecursion (λ digit. digit ≤ 9) digits
 -- One character more.
 one_more : (character : Character) (digits : List ℕ) → AreDigits digits
     → AreDigits (option_map_or (λ digit. digit ∷ digits) (digit_of character) digits)
-one_more characters.Zero digits are = (omega arith, are)
-one_more characters.One digits are = (omega arith, are)
-one_more characters.Two digits are = (omega arith, are)
-one_more characters.Three digits are = (omega arith, are)
-one_more characters.Four digits are = (omega arith, are)
-one_more characters.Five digits are = (omega arith, are)
-one_more characters.Six digits are = (omega arith, are)
-one_more characters.Seven digits are = (omega arith, are)
-one_more characters.Eight digits are = (omega arith, are)
-one_more characters.Nine digits are = (omega arith, are)
-one_more other digits are = are
+one_more characters.Point digits are = are
+one_more characters.Exponent digits are = are
+one_more characters.Minus digits are = are
+one_more character digits are = (omega arith, are)
 
 are_digits : (text : List Character) → AreDigits (digits_in text)
 are_digits [] = tt

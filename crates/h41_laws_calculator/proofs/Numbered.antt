@@ -8,9 +8,8 @@ use Rattle.std.proofs.lemmas.Bool.Decides.{nat_tests}
 use Rattle.std.proofs.lemmas.List.Elements.{All-append, All-map, All-nil, All-tail}
 use Rattle.std.proofs.lemmas.List.FromFn.{get_or-range_with_len, length-range_with_len}
 use Rattle.std.proofs.Math.ListN.{get_or}
-use Rattle.h41_pages.specs.FunctionTables.{AreNumbers, all_pages, entry_count, first_image, function_in}
-use Rattle.h41_pages.specs.FunctionTables.{function_of_name, functions, functions_at}
-use Rattle.h41_pages.specs.FunctionTables.{functions_of, has_functions, is_named, number_in, numbers_of}
+use Rattle.h41_pages.specs.FunctionTables.{AreNumbers, all_pages, entry_count, first_image, function_in, function_of_name, functions}
+use Rattle.h41_pages.specs.FunctionTables.{functions_at, functions_of, has_functions, is_named, number_in, numbers_of}
 use Rattle.h41_pages.specs.PageMap.{PageImage, PageMap}
 use Rattle.h41_pages.specs.declared.functions.ModuleFunction.{ModuleFunction}
 
@@ -28,9 +27,7 @@ few count is = grind (arith, nat_tests)
 
 three : (a b c : Bool) → (a && b && c) ≡ true → (a ≡ true) × (b ≡ true) × (c ≡ true)
 three true true true is = (refl, refl, refl)
-three true true false is = cc
-three true false c is = cc
-three false b c is = cc
+three a b c is = cc
 
 -- The table entries of a page.
 counted : (words : List ℕ) (has : Bool) → has_functions words ≡ has → (k : ℕ) → k < (if has then slice_index words 1 else 0)

@@ -33,12 +33,9 @@ use Rattle.h41_rows.specs.RowEffects.{last_24, takes_of}
 use Rattle.h41_rows.specs.Rows.{coming_in, compute}
 use Rattle.h41_rows.specs.Values.{Written}
 use Rattle.h41_xrom.specs.Calculator.{CalculatorState, machine_of}
-use Rattle.h41_xrom.specs.KeyActions.{Acts, BeginsNumber, Carries, ChangesNumber, Edits, IsStoredAs, KeyMakes}
-use Rattle.h41_xrom.specs.KeyActions.{StoredFunction, StoredIfNoLabel, StoredName}
-use Rattle.h41_xrom.specs.KeyActions.{StoresLine, activity_of, after_outcome, edit_effect, key_refusal}
-use Rattle.h41_xrom.specs.KeyActions.{line_effect}
-use Rattle.h41_xrom.specs.KeyActions.{press_of, taken_in, with_key_accepted, with_letters}
-use Rattle.h41_xrom.specs.KeyActions.{with_text}
+use Rattle.h41_xrom.specs.KeyActions.{Acts, BeginsNumber, Carries, ChangesNumber, Edits, IsStoredAs, KeyMakes, StoredFunction}
+use Rattle.h41_xrom.specs.KeyActions.{StoredIfNoLabel, StoredName, StoresLine, activity_of, after_outcome, edit_effect, key_refusal}
+use Rattle.h41_xrom.specs.KeyActions.{line_effect, press_of, taken_in, with_key_accepted, with_letters, with_text}
 use Rattle.h41_focal.specs.OutsideCalls.{LineSource}
 use Rattle.h41_focal.specs.OutsideCalls as sources
 use Rattle.h41_xrom.specs.declared.refusal.CalculatorRefusal.{CalculatorRefusal}
@@ -51,7 +48,7 @@ use Rattle.h41_laws_calculator.proofs.Bytes.{IsByte, alone, last_bytes}
 use Rattle.h41_laws_calculator.proofs.Edited.{MachineKept, before_kept, deleted_kept, end_kept, inserted_kept, next_kept, replaced_kept}
 use Rattle.h41_laws_calculator.proofs.WholeLines.{IsWholeSource, Leaves, computed_by, line_leaves, matched}
 use Rattle.h41_laws_calculator.proofs.WholeMemories.{all_taken, alpha_of_bytes, alpha_written, flagged}
-use Rattle.h41_laws_calculator.proofs.WholeStates.{MadeWhole, becomes_whole, by_refusal, line_left, machine_set, memory_of}
+use Rattle.h41_laws_calculator.proofs.WholeStates.{MadeWhole, becomes_whole, by_refusal, line_left, memory_of}
 
 -- The result of an action, if there is one.
 abbrev Made : Type 0
@@ -140,9 +137,6 @@ letters_set memory text whole all = flagged (with_text memory text) alpha_entry 
 -- EACH ACTION
 acts : (pages : PageMap) (program_mode : Bool) (action : Action) (machine : Machine) (effect : Made) → IsWholeAction action
     → IsWholeMemory machine.memory → Acts pages program_mode action machine effect → LeavesWhole effect
-acts pages program_mode actions.Nothing machine effect valid whole is = subst LeavesWhole (sym is) whole
-acts pages program_mode actions.Stop machine effect valid whole is = subst LeavesWhole (sym is) whole
-acts pages program_mode actions.Run machine effect valid whole is = subst LeavesWhole (sym is) whole
 acts pages program_mode actions.Step machine effect valid whole is =
     matched program_mode (Edits (ShowsNext pages) machine effect) (Carries sources.Program pages machine effect) (LeavesWhole effect) is
     (edited (ShowsNext pages) machine effect (λ made. next_kept pages machine made whole))
@@ -177,6 +171,7 @@ acts pages program_mode actions.TakeLetter machine effect valid whole is =
     (text_set machine.memory (take 23 text) whole (All-take IsByte 23 text (alpha_of_bytes machine.memory whole)))
 acts pages program_mode actions.ClearAlpha machine effect valid whole is =
     subst LeavesWhole (sym is) (text_set machine.memory [] whole (All-nil IsByte))
+acts pages program_mode action machine effect valid whole is = subst LeavesWhole (sym is) whole
 
 -- A KEY. Its code is a byte.
 code_small : (key : Key) → code_of key < 256

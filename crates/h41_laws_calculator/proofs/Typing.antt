@@ -1,9 +1,8 @@
 -- The lines that keys store and execute can be encoded in bytes, and what a keyboard remembers
 -- remains well-formed.
 use Rattle.std.proofs.Common.{◌≡◌, ℕ, ◌+◌, ◌-◌, ◌*◌, ◌<◌, ◌≤◌, Bool, true, false, List, [], ◌∷◌, ◌++◌, length, take, Option, Some, None}
-use Rattle.std.proofs.Common.{refl, arith}
+use Rattle.std.proofs.Common.{refl, arith, length-append, rules}
 use Rattle.std.specs.Prelude.{IfSome, ◌&&◌, ◌==◌, nat_le, nat_lt, not}
-use Rattle.std.proofs.Common.{length-append}
 use Rattle.std.proofs.lemmas.Bool.{and_parts, leb-true, ltb-true}
 use Rattle.std.proofs.lemmas.Bool.Decides.{nat_tests}
 use Rattle.std.proofs.lemmas.List.{length-take}
@@ -135,32 +134,11 @@ IsSmall other = Unit {0}
 
 letter_small : (key : Key) → IsSmall (row_of key).letter
 letter_small keyboard.On = tt
-letter_small keyboard.User = tt
-letter_small keyboard.Program = tt
-letter_small keyboard.Alpha = tt
-letter_small keyboard.Shift = tt
-letter_small keyboard.SingleStep = tt
-letter_small keyboard.Back = tt
-letter_small keyboard.RunStop = tt
-letter_small key = omega arith
+letter_small key = search rules
 
 shifted_small : (key : Key) → IsSmall (row_of key).shifted_letter
 shifted_small keyboard.Minus = omega arith
-shifted_small keyboard.Seven = omega arith
-shifted_small keyboard.Eight = omega arith
-shifted_small keyboard.Nine = omega arith
-shifted_small keyboard.Plus = omega arith
-shifted_small keyboard.Four = omega arith
-shifted_small keyboard.Five = omega arith
-shifted_small keyboard.Six = omega arith
-shifted_small keyboard.Times = omega arith
-shifted_small keyboard.One = omega arith
-shifted_small keyboard.Two = omega arith
-shifted_small keyboard.Three = omega arith
-shifted_small keyboard.Divide = omega arith
-shifted_small keyboard.Zero = omega arith
-shifted_small keyboard.Point = omega arith
-shifted_small key = tt
+shifted_small key = search rules
 
 plain_small : (key : Key) → IsSmall (row_of key).plain
 plain_small keyboard.On = tt
@@ -184,15 +162,7 @@ IsWholeStep other = Unit {0}
 
 ten_most : (digit : Digit) → value_of digit ≤ 9
 ten_most digits.Zero = omega arith
-ten_most digits.One = omega arith
-ten_most digits.Two = omega arith
-ten_most digits.Three = omega arith
-ten_most digits.Four = omega arith
-ten_most digits.Five = omega arith
-ten_most digits.Six = omega arith
-ten_most digits.Seven = omega arith
-ten_most digits.Eight = omega arith
-ten_most digits.Nine = omega arith
+ten_most digit = omega arith
 
 ends_with : (prompt : Prompt) (parameter : ℕ) → parameter < 128 → IsWholeStep (keys.ends_with prompt parameter)
 ends_with prompt parameter small = with_parameter prompt.function prompt.indirect parameter small
@@ -259,8 +229,7 @@ with_stack_typed prompt other letter whole = step_by_letter prompt letter
 
 with_point_typed : (prompt : Prompt) (meaning : Meaning) → IsWholeStep (keys.with_point_typed prompt meaning)
 with_point_typed prompt meanings.Point = tt
-with_point_typed prompt meanings.Back = tt
-with_point_typed prompt other = tt
+with_point_typed prompt meaning = tt
 
 name_letter : (prompt : Prompt) (name : List ℕ) (meaning : Meaning) → IsText 7 name → IsSmall meaning
     → IsWholeStep (keys.name_letter prompt name meaning)
@@ -426,10 +395,7 @@ IfPressed pressed = IfSome pressed IsWholePress
 acts : (input : Input) (meaning : Meaning) → IsWholeInput input → IsSmall meaning → IfPressed (press.acts input meaning)
 acts input meanings.Nothing whole small = tt
 acts input meanings.Shift whole small = (tt, record { entry = whole.entry; prompt = whole.prompt })
-acts input meanings.Alpha whole small = (tt, ended input whole)
 acts input meanings.Program whole small = (tt, record { entry = tt; prompt = whole.prompt })
-acts input meanings.Step whole small = (tt, ended input whole)
-acts input meanings.StepBack whole small = (tt, ended input whole)
 acts input meanings.RunStop whole small = run_pressed input input.program_mode whole
 acts input meanings.Back whole small = back_pressed input input.entry whole whole.entry
 acts input meanings.LetterBack whole small = letter_taken input input.program_mode input.entry whole whole.entry
@@ -441,6 +407,7 @@ acts input (meanings.Function function) whole small = function_typed input funct
 acts input (meanings.Ask function) whole small = (tt, record { entry = kept_entry input.entry whole.entry; prompt = tt })
 acts input (meanings.Letter letter) whole small = letter_typed input input.program_mode input.entry letter whole whole.entry small
 acts input meanings.Append whole small = append_pressed input input.program_mode input.entry whole
+acts input meaning whole small = (tt, ended input whole)
 
 prompt_ended : (input : Input) → IsWholeInput input → IsWholeInput (press.prompt_ended input)
 prompt_ended input whole = record { entry = whole.entry; prompt = tt }

@@ -10,12 +10,11 @@ use Rattle.h41_decimal.specs.declared.fault.DecimalFault.TheVariants.{Data, Rang
 use Rattle.h41_decimal.specs.declared.sign.Sign.{Sign}
 use Rattle.h41_decimal.specs.declared.ten.Ten.{Ten}
 use Rattle.h41_digits.specs.Register.{IsRegister}
-use Rattle.h41_focal.specs.Destinations.{Arrives, Destination, Halts, HasNoLabel, HasNoLine, Manner, Runs, Seeks, Stays, Stepped, Tells}
+use Rattle.h41_focal.specs.Destinations.{Destination, Halts, HasNoLabel, HasNoLine, Manner, Seeks, Stepped}
 use Rattle.h41_focal.specs.Destinations.{Typed}
 use Rattle.h41_focal.specs.LineStep.{Applies, AppliesTo, AppliesWith, CarriesOut, ComputesIn, Ends, EndsInError, Left, Stands}
-use Rattle.h41_positions.specs.FocalState.{Machine}
+use Rattle.h41_positions.specs.FocalState.{Machine, at_line}
 use Rattle.h41_focal.specs.LineStep.{TakesLine, Works, answer_of_showing, error_flag, left_by_fault, left_done}
-use Rattle.h41_positions.specs.FocalState.{at_line}
 use Rattle.h41_focal.specs.LineStep.{left_failed, named_by, with_fault_caught, with_row}
 use Rattle.h41_focal.specs.Outcomes.{Answer}
 use Rattle.h41_focal.specs.Outcomes as answers
@@ -109,15 +108,11 @@ fails_left how machine fault carried whole is = subst Leaves (sym is) (fault_lef
 -- A line that continues.
 ends_left : (how : Manner) (old new : Machine) (answer : Answer) (to : Destination) (carried : Result Left FocalRefusal)
     → IsWholeMemory old.memory → IsWholeMemory new.memory → Ends how old new answer to carried → Leaves carried
-ends_left how old new answer (Arrives position returns) carried before behind is = subst Leaves (sym is) behind
-ends_left (Stepped next) old new answer (Halts start) carried before behind is = subst Leaves (sym is) behind
 ends_left Typed old new answer (Halts start) carried before behind is = subst Leaves (sym is) behind
-ends_left how old new answer Stays carried before behind is = subst Leaves (sym is) behind
-ends_left how old new answer (Tells holds) carried before behind is = subst Leaves (sym is) behind
-ends_left how old new answer (Runs position) carried before behind is = subst Leaves (sym is) behind
 ends_left how old new answer (Seeks name) carried before behind is = subst Leaves (sym is) before
 ends_left how old new answer HasNoLabel carried before behind is = fails_left how old Nonexistent carried before is
 ends_left how old new answer HasNoLine carried before behind is = subst Leaves (sym is) tt
+ends_left how old new answer to carried before behind is = subst Leaves (sym is) behind
 
 -- A row.
 applied_with : (pages : PageMap) (how : Manner) (row : rows.LineRow) (named : ℕ) (machine : Machine) (result : Result (List ℕ) LineFault)

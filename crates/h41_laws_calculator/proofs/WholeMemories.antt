@@ -1,9 +1,6 @@
 -- Memory that is changed remains well-formed.
-use Rattle.std.proofs.Common.{◌≡◌, ℕ, zero, suc, ◌-◌, ◌/◌, ◌%◌, ◌^◌, ◌<◌, Bool, true, false, List, [], ◌∷◌, ◌++◌, map}
-use Rattle.std.proofs.Common.{length}
-use Rattle.std.proofs.Common.{drop, replicate, slice_index, slice_set, if◌then◌else◌, Option, Some, None, refl}
-use Rattle.std.proofs.Common.{arith}
-use Rattle.std.proofs.Common.{length-append, length-drop}
+use Rattle.std.proofs.Common.{◌≡◌, ℕ, zero, suc, ◌-◌, ◌/◌, ◌%◌, ◌^◌, ◌<◌, Bool, true, false, List, [], ◌∷◌, ◌++◌, map, length, drop}
+use Rattle.std.proofs.Common.{replicate, slice_index, slice_set, if◌then◌else◌, Option, Some, None, refl, arith, length-append, length-drop}
 use Rattle.std.specs.Prelude.{◌==◌, nat_lt, All}
 use Rattle.std.specs.List.{range_with_len}
 use Rattle.std.proofs.Math.ListN.{length-set}
@@ -24,10 +21,9 @@ use Rattle.h41_ram.specs.RegisterMap.{RegisterMap, alpha_of, curtain_of, d_addre
 use Rattle.h41_ram.specs.RegisterMap.{m_address, main_start, n_address, o_address, p_address, p_of, register_at, seven_from}
 use Rattle.h41_ram.specs.RegisterMap.{status_end, with_alpha, with_bit, with_flag, with_register, zeros}
 use Rattle.h41_rows.specs.LineRows.{count_row, operand_row, register_row, row_of, text_row, to_meant}
-use Rattle.h41_rows.specs.Operands.{Meant, Count, Name}
+use Rattle.h41_rows.specs.Operands.{Meant, Count}
 use Rattle.h41_rows.specs.Places.{place_address}
-use Rattle.h41_rows.specs.RowEffects.{alpha_after, cleared_register, memory_after, recalled_text, six_characters, takes_of}
-use Rattle.h41_rows.specs.RowEffects.{taken_from}
+use Rattle.h41_rows.specs.RowEffects.{alpha_after, cleared_register, memory_after, recalled_text, six_characters, takes_of, taken_from}
 use Rattle.h41_rows.specs.RowEffects.{text_register, with_alpha_change, with_cleared_data, with_data_if, with_flags, with_taken}
 use Rattle.h41_rows.specs.Rows as rows
 use Rattle.h41_show.specs.DisplayFormat.{format_of}
@@ -67,11 +63,8 @@ bit_small digit zero true four small = omega arith
 bit_small digit (suc zero) true four small = omega arith
 bit_small digit (suc (suc zero)) true four small = omega arith
 bit_small digit (suc (suc (suc zero))) true four small = omega arith
-bit_small digit zero false four small = omega arith
-bit_small digit (suc zero) false four small = omega arith
-bit_small digit (suc (suc zero)) false four small = omega arith
-bit_small digit (suc (suc (suc zero))) false four small = omega arith
-bit_small digit (suc (suc (suc (suc place)))) on four small = absurd (omega arith)
+bit_small digit (suc (suc (suc (suc place)))) true four small = absurd (omega arith)
+bit_small digit place false four small = omega arith
 
 bit_written : (register : List ℕ) (bit : ℕ) (on : Bool) → IsRegister 14 register → IsRegister 14 (with_bit register bit on)
 bit_written register bit on valid =
@@ -233,7 +226,6 @@ operand_silent function meant = register_silent function
 
 meant_silent : (branch : Branch) (meant : Meant) → ChangesWhole (to_meant branch meant).alpha
 meant_silent branch (Count label) = tt
-meant_silent branch (Name name) = tt
 meant_silent branch meant = tt
 
 text_put : (characters : List ℕ) → AreBytes characters → ChangesWhole (text_row characters).alpha
@@ -245,12 +237,8 @@ text_put (character ∷ text) all =
 pub line_puts : (line : Line) (meant : Meant) → IsLine line → ChangesWhole (row_of line meant).alpha
 line_puts (lines.Text characters) meant valid = text_put characters (of_text characters valid.bytes)
 line_puts (lines.Named namings.GoToName name) meant valid = tt
-line_puts (lines.Named namings.ExecuteName name) meant valid = tt
-line_puts (lines.Named namings.Wordless name) meant valid = tt
 line_puts (lines.Register registers.RecallRegister register) meant valid = tt
-line_puts (lines.Register registers.StoreRegister register) meant valid = tt
 line_puts (lines.WithOperand function operand) meant valid = operand_silent function meant
 line_puts (lines.BranchIndirect branch register) meant valid = meant_silent branch meant
 line_puts (lines.Plain functions.ClearAlpha) meant valid = All-nil IsByte
-line_puts (lines.Plain function) meant valid = tt
 line_puts line meant valid = tt

@@ -1,16 +1,13 @@
 -- Memory whose program is changed remains well-formed.
-use Rattle.std.proofs.Common.{◌≡◌, ℕ, ◌+◌, ◌-◌, ◌*◌, ◌/◌, ◌%◌, ◌<◌, ◌≤◌, Bool, true, false, List, [], ◌∷◌, ◌++◌, map, length}
-use Rattle.std.proofs.Common.{replicate, slice_set, if◌then◌else◌, Option, Some, None, Result, Ok, Err, inl, inr, refl, sym}
-use Rattle.std.proofs.Common.{subst, ◌∙◌}
-use Rattle.std.proofs.Common.{ap, arith}
+use Rattle.std.proofs.Common.{◌≡◌, ℕ, ◌+◌, ◌-◌, ◌*◌, ◌/◌, ◌%◌, ◌<◌, ◌≤◌, Bool, true, false, List, [], ◌∷◌, ◌++◌, map, length, replicate}
+use Rattle.std.proofs.Common.{slice_set, if◌then◌else◌, Option, Some, None, Result, Ok, Err, inl, inr, refl, sym, subst, ◌∙◌, ap, arith}
 use Rattle.std.specs.Prelude.{◌&&◌, nat_lt, nat_le, All, ◌==◌, is_some}
 use Rattle.std.specs.List.{flat_map}
 use Rattle.std.specs.Bool.{then_some}
 use Rattle.std.specs.Option.{unwrap_or}
 use Rattle.std.proofs.lemmas.Bool.{and_parts, cases_Bool, leb-true, ltb-true}
 use Rattle.std.proofs.lemmas.List.Elements.{All-append, All-cons, All-head, All-map, All-nil, All-replicate, All-set, All-tail}
-use Rattle.h41_codes.specs.ByteGrammar.{IsLine, IsOperand, IsText, label_byte, link_high, link_low, mark_bits, operand_byte}
-use Rattle.h41_codes.specs.ByteGrammar.{spelling}
+use Rattle.h41_codes.specs.ByteGrammar.{IsLine, IsOperand, IsText, label_byte, link_high, link_low, mark_bits, operand_byte, spelling}
 use Rattle.h41_codes.specs.ByteGrammar.{indirect_byte, text_bytes}
 use Rattle.h41_codes.specs.Codes.{branch_code, character_code, function_code, name_function_code, parameter_function_code}
 use Rattle.h41_codes.specs.Codes.{register_function_code}
@@ -32,9 +29,8 @@ use Rattle.h41_codes.specs.declared.line.Operand.{Operand}
 use Rattle.h41_codes.specs.declared.line.Operand.TheVariants.{Direct, Indirect}
 use Rattle.h41_digits.specs.Register.{IsRegister}
 use Rattle.h41_program.proofs.Inner.{KeepsInner, before_inner, changed_inner, closed_inner, loaded_inner}
-use Rattle.h41_program.specs.Edits.{EditGives, LoadGives, LoadsBehind, before_end, close_behind}
-use Rattle.h41_program.specs.Edits.{has_line_at, is_open, lines_of, load_outcome, loaded_of, memory_with_answer}
-use Rattle.h41_program.specs.Edits.{with_last_end, without_end}
+use Rattle.h41_program.specs.Edits.{EditGives, LoadGives, LoadsBehind, before_end, close_behind, has_line_at, is_open, lines_of}
+use Rattle.h41_program.specs.Edits.{load_outcome, loaded_of, memory_with_answer, with_last_end, without_end}
 use Rattle.h41_program.specs.Lines.{is_number}
 use Rattle.h41_program.specs.Packing.{filler, gap, packed_lines, packing, written_end}
 use Rattle.h41_program.specs.ProgramBytes.{final_position, program_bytes}

@@ -1,7 +1,6 @@
 -- Calculators remain whole.
-use Rattle.std.proofs.Common.{◌≡◌, ℕ, ◌+◌, ◌-◌, ◌<◌, ◌≤◌, Bool, true, false, [], ◌∷◌, Option, Some, None, Result, Ok, Err, refl}
-use Rattle.std.proofs.Common.{sym, subst, ap, ◌∙◌}
-use Rattle.std.proofs.Common.{arith, length, replicate, slice_set}
+use Rattle.std.proofs.Common.{◌≡◌, ℕ, ◌+◌, ◌-◌, ◌<◌, ◌≤◌, Bool, true, false, [], ◌∷◌, Option, Some, None, Result, Ok, Err, refl, sym, subst}
+use Rattle.std.proofs.Common.{ap, ◌∙◌, arith, length, replicate, slice_set}
 use Rattle.std.specs.Bool.{then_some}
 use Rattle.std.specs.Option.{option_or}
 use Rattle.std.specs.Prelude.{All, MatchOption, nat_le, not}
@@ -48,6 +47,7 @@ use Rattle.h41_focal.specs.OutsideCalls as sources
 use Rattle.h41_xrom.specs.declared.refusal.CalculatorRefusal.{CalculatorRefusal}
 use Rattle.h41_xrom.specs.declared.refusal.CalculatorRefusal.TheVariants.{Busy, MemoryLost}
 use Rattle.h41_laws_words.proofs.Registers.{zeros_register}
+use Rattle.h41_digits.proofs.Packed.{register-digits_of}
 use Rattle.h41_laws_words.specs.WholeStates.{HasAllRegisters, HoldsRegisters, IsWhole, WordLeavesWhole}
 use Rattle.h41_laws_calculator.specs.WholeCalculators.{CallLeavesWhole, IsWholeCalculator, LoadLeavesWhole, PlugLeavesWhole}
 use Rattle.h41_laws_calculator.specs.WholeCalculators.{ResetLeavesWhole, SizeLeavesWhole, StartIsWhole, StepLeavesWhole, UnplugLeavesWhole}
@@ -285,72 +285,10 @@ c_valid curtain most =
     three_set constant 11 (curtain + 11) constant_valid (omega (arith, most))
 
 d_valid : IsRegister 14 start_d
-d_valid = record {
-  size = refl;
-  each =
-      All-from_recursion (λ digit. digit < 16) start_d (
-        omega arith,
-        (
-          omega arith,
-          (
-            omega arith,
-            (
-              omega arith,
-              (
-                omega arith,
-                (
-                  omega arith,
-                  (
-                    omega arith,
-                    (
-                      omega arith,
-                      (
-                        omega arith,
-                        (omega arith, (omega arith, (omega arith, (omega arith, (omega arith, tt))))),
-                      ),
-                    ),
-                  ),
-                ),
-              ),
-            ),
-          ),
-        ),
-      );
-}
+d_valid = register-digits_of 14 0x2C048000
 
 empty_valid : IsRegister 14 empty_program
-empty_valid = record {
-  size = refl;
-  each =
-      All-from_recursion (λ digit. digit < 16) empty_program (
-        omega arith,
-        (
-          omega arith,
-          (
-            omega arith,
-            (
-              omega arith,
-              (
-                omega arith,
-                (
-                  omega arith,
-                  (
-                    omega arith,
-                    (
-                      omega arith,
-                      (
-                        omega arith,
-                        (omega arith, (omega arith, (omega arith, (omega arith, (omega arith, tt))))),
-                      ),
-                    ),
-                  ),
-                ),
-              ),
-            ),
-          ),
-        ),
-      );
-}
+empty_valid = register-digits_of 14 0xC00020
 
 memory_start : (registers : ℕ) → registers ≤ 320 → HoldsRegisters (ram.start registers)
 memory_start registers most =

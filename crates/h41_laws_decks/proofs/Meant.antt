@@ -1,17 +1,12 @@
 -- The meaning of the lines of a program's block.
-use Rattle.std.proofs.Common.{◌≡◌, ◌≢◌, ◌⊎◌, ℕ, zero, suc, ◌<◌, ◌≤◌, List, [], ◌∷◌, Option, Some, None, Result, Ok, Err, length}
-use Rattle.std.proofs.Common.{inl, inr, refl, sym, ap, ◌∙◌, subst, drop, arith}
+use Rattle.std.proofs.Common.{◌≡◌, ◌≢◌, ℕ, suc, List, [], ◌∷◌, Option, Some, None, Result, Ok, Err, inl, inr, refl, sym, ap, ◌∙◌, subst}
 use Rattle.std.specs.Option.{option_map}
-use Rattle.std.proofs.lemmas.Bool.{cases_eq, cases_lt}
 use Rattle.std.proofs.lemmas.Option.{none-some, same_Some}
-use Rattle.h41_codes.specs.ByteGrammar.{IsBytes, IsLine, IsOperand, IsText}
 use Rattle.h41_codes.specs.ByteLaws.{CanonicalOnce}
 use Rattle.h41_codes.specs.Canon.{canonical_line}
 use Rattle.h41_codes.specs.declared.line.Line.{Line}
-use Rattle.h41_codes.specs.declared.line.Line.TheVariants.{Null, LocalLabel, Number, Named, Register, Plain, WithOperand, Module}
-use Rattle.h41_codes.specs.declared.line.Line.TheVariants.{BranchIndirect, ShortGoTo, GlobalLabel, End, FinalEnd, BranchTo, Text}
-use Rattle.h41_codes.specs.declared.line.Operand.{Operand}
-use Rattle.h41_codes.specs.declared.line.Operand.TheVariants.{Direct, Indirect}
+use Rattle.h41_codes.specs.declared.line.Line.TheVariants.{Null}
+use Rattle.h41_codes.proofs.Deciding.{Either, both, bytes_either, valid_either}
 use Rattle.h41_commands.specs.Commands.{and_then}
 use Rattle.h41_commands.specs.ProgramBlocks.{SayLines, texts_of, with_more}
 use Rattle.h41_commands.specs.declared.commands.ProgramKind.TheVariants as kinds
@@ -27,63 +22,7 @@ use Rattle.h41_laws_words.specs.HasOne.{HasOne}
 use Rattle.h41_laws_decks.specs.DeckAnswers.{ProgramBlockMeansOne}
 use Rattle.h41_laws_decks.proofs.Said.{given}
 
--- A fact that holds or does not.
-abbrev Either : Type 0 → Type 0
-Either A = A ⊎ (A → ⊥)
-
-below : (a b : ℕ) → Either (a < b)
-below a b = elim (cases_lt a b) [ inl less ↦ inl less | inr more ↦ inr (λ less. omega (arith, less, more)) ]
-
-at_most : (a b : ℕ) → Either (a ≤ b)
-at_most a b = elim (cases_lt b a) [ inl more ↦ inr (λ less. omega (arith, less, more)) | inr less ↦ inl less ]
-
-both : {A B : Type 0} → Either A → Either B → Either (A × B)
-both (inl a) (inl b) = inl (a, b)
-both (inl a) (inr lacks) = inr (λ pair. lacks pair.1)
-both (inr lacks) other = inr (λ pair. lacks pair.0)
-
--- Whether a line can be encoded in bytes.
-operand_either : (operand : Operand) → Either (IsOperand operand)
-operand_either (Direct parameter) = below parameter 128
-operand_either (Indirect parameter) = below parameter 128
-
-more_bytes : (byte : ℕ) (bytes : List ℕ) → byte < 256 → IsBytes bytes → IsBytes (byte ∷ bytes)
-more_bytes byte bytes first rest zero inside = first
-more_bytes byte bytes first rest (suc index) inside = rest index (omega arith)
-
-are_bytes_either : (bytes : List ℕ) → Either (IsBytes bytes)
-are_bytes_either [] = inl (λ index inside. absurd (omega (arith, inside)))
-are_bytes_either (byte ∷ bytes) = elim (both (below byte 256) (are_bytes_either bytes)) [
-  | inl all ↦ inl (more_bytes byte bytes all.0 all.1)
-  | inr lacks ↦ inr (λ all. lacks (all 0 (omega arith), λ index inside. all (suc index) (omega (arith, inside))))
-]
-
-text_either : (most : ℕ) (characters : List ℕ) → Either (IsText most characters)
-text_either most characters = elim (both (at_most (length characters) most) (are_bytes_either characters)) [
-  | inl all ↦ inl (record { fits = all.0; bytes = all.1 })
-  | inr lacks ↦ inr (λ text. lacks (text.fits, text.bytes))
-]
-
-valid_either : (line : Line) → Either (IsLine line)
-valid_either Null = inl tt
-valid_either (LocalLabel label) = below label 15
-valid_either (Number characters) = both (at_most 1 (length characters)) (at_most (length characters) 16)
-valid_either (Named function name) = text_either 15 name
-valid_either (Register function register) = below register 16
-valid_either (Plain function) = inl tt
-valid_either (WithOperand function operand) = operand_either operand
-valid_either (Module number entry) = both (below number 32) (below entry 64)
-valid_either (BranchIndirect branch register) = below register 128
-valid_either (ShortGoTo label distance) = both (below label 15) (below distance 256)
-valid_either (GlobalLabel link key name) = elim (both (below link 3584) (both (below key 256) (text_either 14 name))) [
-  | inl all ↦ inl (all.0, all.1.0, all.1.1)
-  | inr lacks ↦ inr (λ all. lacks (all.0, (all.1, all.2)))
-]
-valid_either (End link marks) = both (below link 3584) (below marks 128)
-valid_either (FinalEnd link marks) = both (below link 3584) (below marks 112)
-valid_either (BranchTo branch distance backwards label) = both (below distance 4096) (below label 128)
-valid_either (Text characters) = text_either 15 characters
-
+-- Whether a line has a text.
 null_either : (line : Line) → Either (line ≢ Null)
 null_either Null = inr (λ differs. differs refl)
 null_either line = inl (λ same. cc)
@@ -92,19 +31,6 @@ has_either : (line : Line) → Either (HasText line)
 has_either line = elim (both (valid_either line) (null_either line)) [
   | inl has ↦ inl (record { valid = has.0; shown = has.1 })
   | inr lacks ↦ inr (λ has. lacks (has.valid, has.shown))
-]
-
--- Whether bytes are the same.
-bytes_either : (bytes others : List ℕ) → Either (bytes ≡ others)
-bytes_either [] [] = inl refl
-bytes_either [] (other ∷ others) = inr (λ same. cc)
-bytes_either (byte ∷ bytes) [] = inr (λ same. cc)
-bytes_either (byte ∷ bytes) (other ∷ others) = elim (cases_eq byte other) [
-  | inl first ↦ elim (bytes_either bytes others) [
-    | inl rest ↦ inl (ap (λ (b : ℕ). b ∷ bytes) first ∙ ap (λ (all : List ℕ). other ∷ all) rest)
-    | inr lacks ↦ inr (λ same. lacks (ap (drop 1) same))
-  ]
-  | inr lacks ↦ inr (λ same. let first : byte ≡ other = cc in lacks first)
 ]
 
 module _ (once : CanonicalOnce) where

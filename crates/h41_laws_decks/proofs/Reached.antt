@@ -13,8 +13,7 @@ use Rattle.h41_debug.specs.BenchLaws.{PressesAreDetermined, TracesAreSteps}
 use Rattle.h41_deck.specs.Answers.{Answer, printed_text}
 use Rattle.h41_deck.specs.Deck.{FirstTextIsFront, commands_ended}
 use Rattle.h41_refusals.specs.Pages.{of_plug, of_unplug}
-use Rattle.h41_deck.specs.Replies.{LoadsBytes, PlugsWords, Reply, block_refusal, set_refusal, state_unless, unset_refusal}
-use Rattle.h41_deck.specs.Replies.{with_words}
+use Rattle.h41_deck.specs.Replies.{LoadsBytes, PlugsWords, Reply, block_refusal, set_refusal, state_unless, unset_refusal, with_words}
 use Rattle.h41_refusals.specs.declared.refusal.Refusal.{Refusal}
 use Rattle.h41_keys.specs.declared.key.Key.{Key}
 use Rattle.h41_lines.specs.Lines.{lines}

@@ -1,7 +1,5 @@
 -- The contents of views and blocks.
-use Rattle.std.proofs.Common.{◌≡◌, ◌⊎◌, ℕ, List, Option, Some, None, Result, Ok, Err, flat_map}
-use Rattle.std.proofs.Common.{inl, inr, refl, sym, ap, ◌∙◌}
-use Rattle.std.proofs.Common.{arith}
+use Rattle.std.proofs.Common.{◌≡◌, ◌⊎◌, ℕ, List, Option, Some, None, Result, Ok, Err, flat_map, inl, inr, refl, sym, ap, ◌∙◌, arith}
 use Rattle.std.specs.Prelude.{IsSome, option_map}
 use Rattle.h41_asm.specs.Assembly.{Assembles}
 use Rattle.h41_asm.specs.AssemblyLaws.{HasFault, HasWords, HasWordsOrFault, NeverBoth, WordsAreDetermined}

@@ -5,9 +5,8 @@ use Rattle.std.proofs.lemmas.List.{length-map}
 use Rattle.std.specs.List.{list_all, range_with_len}
 use Rattle.std.proofs.lemmas.Bool.{cases_lt}
 use Rattle.std.proofs.lemmas.List.FromFn.{length-map-range_with_len, map-range_with_len_more, take-map-range_with_len}
-use Rattle.h41_codes.specs.ByteGrammar.{spelling, Begins}
+use Rattle.h41_codes.specs.ByteGrammar.{spelling, Begins, GoesOn}
 use Rattle.h41_codes.specs.ByteLaws.{IsNumber, NumberBegins, OneLine}
-use Rattle.h41_codes.specs.ByteGrammar.{GoesOn}
 use Rattle.h41_codes.specs.Codes.{character_code}
 use Rattle.h41_codes.specs.Heads.{IsIn}
 use Rattle.h41_codes.specs.declared.characters.Character.{Character}

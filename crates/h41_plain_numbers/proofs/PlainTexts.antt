@@ -1,7 +1,6 @@
 -- The number of a text of digits and radix marks, by its codes.
-use Rattle.std.proofs.Common.{◌≡◌, ℕ, zero, suc, ◌+◌, ◌-◌, ◌<◌, ◌≤◌, Bool, true, false, List, [], ◌∷◌, length, take, map, not, cond}
-use Rattle.std.proofs.Common.{◌++◌, ◌||◌, IsTrue, Option, Some, subst}
-use Rattle.std.proofs.Common.{if◌then◌else◌, refl, sym, ◌∙◌, ap, arith}
+use Rattle.std.proofs.Common.{◌≡◌, ℕ, zero, suc, ◌+◌, ◌-◌, ◌<◌, ◌≤◌, Bool, true, false, List, [], ◌∷◌, length, take, map, not, cond, ◌++◌}
+use Rattle.std.proofs.Common.{◌||◌, IsTrue, Option, Some, subst, if◌then◌else◌, refl, sym, ◌∙◌, ap, arith}
 use Rattle.std.specs.Prelude.{nat_lt}
 use Rattle.std.specs.Option.{option_map_or}
 use Rattle.std.specs.List.{list_all, list_any, take_while}
@@ -24,19 +23,9 @@ use Rattle.h41_plain_numbers.specs.private.PlainReading.{IsTypedPlain, no_digits
 pub plain_code : (character : Character)
     → (IsTrue (is_plain character) → IsIn 0x10 0x1B (character_code character))
     × (character_code character < 0x1B → IsTrue (is_plain character))
-plain_code characters.Zero = (λ is. (omega arith, omega arith), λ low. refl)
-plain_code characters.One = (λ is. (omega arith, omega arith), λ low. refl)
-plain_code characters.Two = (λ is. (omega arith, omega arith), λ low. refl)
-plain_code characters.Three = (λ is. (omega arith, omega arith), λ low. refl)
-plain_code characters.Four = (λ is. (omega arith, omega arith), λ low. refl)
-plain_code characters.Five = (λ is. (omega arith, omega arith), λ low. refl)
-plain_code characters.Six = (λ is. (omega arith, omega arith), λ low. refl)
-plain_code characters.Seven = (λ is. (omega arith, omega arith), λ low. refl)
-plain_code characters.Eight = (λ is. (omega arith, omega arith), λ low. refl)
-plain_code characters.Nine = (λ is. (omega arith, omega arith), λ low. refl)
-plain_code characters.Point = (λ is. (omega arith, omega arith), λ low. refl)
 plain_code characters.Exponent = (λ is. cc, λ low. absurd (omega arith))
 plain_code characters.Minus = (λ is. cc, λ low. absurd (omega arith))
+plain_code character = (λ is. (omega arith, omega arith), λ low. refl)
 
 -- The digits after one more code.
 pub codes_more : (digits : PlainDigits) (codes : List ℕ) (code : ℕ)

@@ -38,10 +38,6 @@ lost_reaches code at begin first is lost reaches =
     subst (λ (line : ListedLine). is_some (number_in line.position reaches.lines) ≡ true) same reaches.has in
     true≢false (sym has ∙ sym (lost reaches.lines reaches.from))
 
--- If there is no line at an offset, no list reaches it.
-pub none_reaches : (code : List ℕ) (at begin : ℕ) → HasNoLine code at → Reaches code at begin → ⊥
-none_reaches code at begin none reaches = none reaches.first reaches.stands
-
 -- One of the offsets so far.
 abbrev pub IsSoFar : List ℕ → ℕ → ℕ → Type 0
 IsSoFar begins count begin = (k : ℕ) × (k < count) × (k < length begins) × (slice_index begins k ≡ begin)

@@ -57,8 +57,7 @@ made Delete here listed = if here then [] else own_line listed
 is_made : (change : Change) (place : ℕ) (listed : ListedLine) → lines_of_change change place listed
     ≡ made change (listed.position == place) listed
 is_made (Put line Before) place listed = refl
-is_made (Put line Instead) place listed = refl
-is_made Delete place listed = refl
+is_made change place listed = refl
 
 made_other : (change : Change) (here : Bool) (listed : ListedLine) → is_final_end listed.line ≡ false
     → new_part here change ++ line_if (is_kept here change) listed.line ≡ made change here listed

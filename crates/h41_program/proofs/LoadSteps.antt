@@ -18,14 +18,6 @@ use Rattle.h41_program.proofs.Packings.{packed-less, length-packing, no_room}
 use Rattle.h41_program.proofs.Rooms.{written-none}
 use Rattle.h41_program.proofs.Cases.{not_both, same_error}
 
--- An answer that replaces another.
-gives_ok : {A : Type 0} (old new : RegisterMap) (result : Result (Unit {0}) ProgramRefusal)
-    (answer : A) (outcome : Result RegisterMap ProgramRefusal)
-    → result ≡ Ok tt → HasOutcome old new result (memory_with_answer tt outcome)
-    → HasOutcome old new (Ok answer) (memory_with_answer answer outcome)
-gives_ok old new result answer (Ok memory) ok gives = (refl, gives.1)
-gives_ok old new result answer (Err refusal) ok gives = absurd (not_both result tt refusal ok gives.0)
-
 gives_err : {A : Type 0} (old new : RegisterMap) (result : Result (Unit {0}) ProgramRefusal) (refusal : ProgramRefusal)
     (given : Result A ProgramRefusal) (answer : A) (outcome : Result RegisterMap ProgramRefusal)
     → result ≡ Err refusal → given ≡ Err refusal → HasOutcome old new result (memory_with_answer tt outcome)

@@ -44,9 +44,6 @@ module _ (number : ℕ) (some : 0 < number) (fits : number < 2 ^ 64) where
   top : (j : ℕ) × (leading_zeros w64 number + suc j ≡ 64) × (2 ^ j ≤ number) × (number < 2 ^ suc j)
   top = leading_top 64 number some fits
 
-  pub nulls_few : nulls < 8
-  nulls_few = let sum = top.1 in omega (arith, sum)
-
   below_weight : (place : ℕ) → suc top.0 ≤ 8 * place → number < 256 ^ place
   below_weight place high =
       let less = top.3 in

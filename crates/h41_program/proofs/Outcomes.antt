@@ -12,8 +12,7 @@ use Rattle.h41_program.specs.declared.listed_line.ListedLine.{ListedLine}
 use Rattle.h41_program.specs.declared.refusal.ProgramRefusal.{ProgramRefusal}
 use Rattle.h41_program.specs.declared.refusal.ProgramRefusal.TheVariants.{BrokenProgram}
 use Rattle.h41_program.specs.Edits.{lines_of, before_end, with_last_end, memory_with_answer, changed_outcome, edit_outcome, end_of_lines}
-use Rattle.h41_program.specs.Edits.{has_line_at}
-use Rattle.h41_program.specs.Edits.{LeavesChanged, load_outcome, loaded_of, without_end, Edits, Loads, LoadsBehind}
+use Rattle.h41_program.specs.Edits.{has_line_at, LeavesChanged, load_outcome, loaded_of, without_end, Edits, Loads, LoadsBehind}
 use Rattle.h41_program.specs.Packing.{packed_lines}
 use Rattle.h41_program.specs.ProgramBytes.{program_bytes, final_position}
 use Rattle.h41_program.specs.ProgramLaws.{IsInner, HasLines, LeavesLoaded, LoadIsRead}

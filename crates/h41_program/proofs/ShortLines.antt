@@ -1,7 +1,6 @@
 -- A line of one byte is the line of all bytes that begin with this byte.
 use Rattle.std.proofs.Common.{◌≡◌, ℕ, suc, ◌+◌, ◌-◌, ◌<◌, ◌≤◌, List, [], ◌∷◌, ◌++◌, map, take, drop, Ok, Result, sym, ◌∙◌, ap, subst, arith}
-use Rattle.std.proofs.Common.{inl, inr}
-use Rattle.std.proofs.Common.{min}
+use Rattle.std.proofs.Common.{inl, inr, min}
 use Rattle.std.specs.List.{range_with_len}
 use Rattle.std.proofs.lemmas.List.{length-take, take-take}
 use Rattle.std.proofs.lemmas.List.FromFn.{take-map-range_with_len}

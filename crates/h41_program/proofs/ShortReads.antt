@@ -35,55 +35,25 @@ first_read memory at number byte inside holds is =
 -- A short line is no null and no number, is complete before any bytes, and has at most three.
 no_null : (line : ShortLine) → line_of line ≡ Null → ⊥
 no_null (short.LocalLabel label) same = cc
-no_null (short.Register function register) same = cc
-no_null (short.Plain function) same = cc
-no_null (short.WithOperand function operand) same = cc
-no_null (short.Module number entry) same = cc
-no_null (short.BranchIndirect branch register) same = cc
-no_null (short.ShortGoTo label distance) same = cc
-no_null (short.BranchTo branch distance backwards label) same = cc
+no_null line same = cc
 
 no_number : (line : ShortLine) → IsNumber (line_of line) → ⊥
 no_number (short.LocalLabel label) is = is
-no_number (short.Register function register) is = is
-no_number (short.Plain function) is = is
-no_number (short.WithOperand function operand) is = is
-no_number (short.Module number entry) is = is
-no_number (short.BranchIndirect branch register) is = is
-no_number (short.ShortGoTo label distance) is = is
-no_number (short.BranchTo branch distance backwards label) is = is
+no_number line is = is
 
 whole : (line : ShortLine) (rest : List ℕ) → IsComplete (line_of line) rest
 whole (short.LocalLabel label) rest = tt
-whole (short.Register function register) rest = tt
-whole (short.Plain function) rest = tt
-whole (short.WithOperand function operand) rest = tt
-whole (short.Module number entry) rest = tt
-whole (short.BranchIndirect branch register) rest = tt
-whole (short.ShortGoTo label distance) rest = tt
-whole (short.BranchTo branch distance backwards label) rest = tt
+whole line rest = tt
 
 three : (line : ShortLine) → length (spelling (line_of line)) ≤ 3
 three (short.LocalLabel label) = omega arith
-three (short.Register function register) = omega arith
-three (short.Plain function) = omega arith
-three (short.WithOperand function operand) = omega arith
-three (short.Module number entry) = omega arith
-three (short.BranchIndirect branch register) = omega arith
-three (short.ShortGoTo label distance) = omega arith
-three (short.BranchTo branch distance backwards label) = omega arith
+three line = omega arith
 
 -- A short line does not end memory.
 pub goes_on : (memory : RegisterMap) (line : ShortLine) (at behind next : ℕ) → PositionFrom memory behind next
     → FoundBehind (memory_source memory) (record { listed = record { position = at; line = line_of line }; behind = behind }) next
 goes_on memory (short.LocalLabel label) at behind next from = from
-goes_on memory (short.Register function register) at behind next from = from
-goes_on memory (short.Plain function) at behind next from = from
-goes_on memory (short.WithOperand function operand) at behind next from = from
-goes_on memory (short.Module number entry) at behind next from = from
-goes_on memory (short.BranchIndirect branch register) at behind next from = from
-goes_on memory (short.ShortGoTo label distance) at behind next from = from
-goes_on memory (short.BranchTo branch distance backwards label) at behind next from = from
+goes_on memory line at behind next from = from
 
 -- The first byte of a short line begins no null and no number.
 module _ (first : ℕ) (more : List ℕ) (line : ShortLine) (size : ℕ) (begins : Begins (first ∷ more) (line_of line) size) where
@@ -192,12 +162,3 @@ module _ (memory : RegisterMap) (at last first : ℕ) (last_is : last ≡ final_
       let most : long ≤ final - at = omega (arith, inside, length-take (final - at) (drop at (program_bytes memory))) in
       let same = sized behind_first line long (begins_with_first line long begins) in
       omega (arith, over, most, same, last_is)
-
--- There is no short line at the last three bytes or after them.
-pub none_at_end : (memory : RegisterMap) (at : ℕ) → final_position memory ≤ at → HasNoShort memory at
-none_at_end memory at end line size begins =
-    let all = program_bytes memory in
-    let final = final_position memory in
-    let inside = begins.inside in
-    let least = begins_least (slice_range all at final) (line_of line) size begins in
-    omega (arith, inside, least, end, length-take (final - at) (drop at all))

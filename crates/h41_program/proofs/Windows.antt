@@ -1,13 +1,11 @@
 -- A line is read from 18 bytes as from all of them.
 use Rattle.std.proofs.Common.{◌≡◌, ℕ, suc, ◌+◌, ◌-◌, ◌<◌, ◌≤◌, List, [], ◌∷◌, map, length, take, drop, length-take-le, refl, sym, ◌∙◌, ap}
-use Rattle.std.proofs.Common.{subst, arith, inl, inr}
+use Rattle.std.proofs.Common.{subst, arith, inl, inr, take_all, min}
 use Rattle.std.specs.List.{range_with_len}
-use Rattle.std.proofs.lemmas.List.{ext_get_or, take-take, drop-take, get_or-drop, length-drop, length-take}
+use Rattle.std.proofs.lemmas.List.{ext_get_or, take-take, drop-take, get_or-drop, length-drop, length-take, length-map}
 use Rattle.std.proofs.lemmas.List.FromFn.{get_or-map-range_with_len, length-map-range_with_len, take-map-range_with_len}
 use Rattle.std.proofs.lemmas.Bool.{cases_lt}
-use Rattle.std.proofs.Common.{take_all, min}
 use Rattle.h41_codes.specs.Codes.{character_code}
-use Rattle.std.proofs.lemmas.List.{length-map}
 use Rattle.h41_codes.specs.ByteGrammar.{spelling, IsLine, IsComplete, GoesOn, Begins}
 use Rattle.h41_codes.specs.declared.line.Line.{Line}
 use Rattle.h41_codes.specs.declared.line.Line.TheVariants.{Number}

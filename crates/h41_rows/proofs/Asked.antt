@@ -16,9 +16,7 @@ asked_both g (Some x) (Some y) wa wb result ea eb e =
     e
     ∙ (ap (λ o. Ok (g x (option_map_or (λ n. n) o (pos 0)))) (sym eb)
     ∙ ap (λ o. Ok (g (option_map_or (λ n. n) o (pos 0)) (option_map_or (λ n. n) wb (pos 0)))) (sym ea))
-asked_both g (Some x) None wa wb result ea eb e = e
-asked_both g None (Some y) wa wb result ea eb e = e
-asked_both g None None wa wb result ea eb e = e
+asked_both g a b wa wb result ea eb e = e
 
 asked_left : (g : ℤ → ℤ → Bool) (a wa : Option ℤ) (z : ℤ) (result : Result Bool LineFault) → wa ≡ a
     → result ≡ answer_of_comparison g a (Some z)

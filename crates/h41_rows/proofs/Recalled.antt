@@ -10,9 +10,7 @@ use Rattle.h41_show.specs.declared.format.Format.{Format}
 
 never : (a b : Bool) (other : Option ℤ) → (if a && b && false then Some (pos 0) else other) ≡ other
 never true true other = refl
-never true false other = refl
-never false true other = refl
-never false false other = refl
+never a b other = refl
 
 -- No number has the digit of ALPHA data in place 13.
 no_number : (mantissa exponent : Option ℕ) → parts_worth mantissa exponent 1 ≡ None

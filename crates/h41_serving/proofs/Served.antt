@@ -7,12 +7,6 @@ use Rattle.h41_jobs.specs.declared.ended.Ended.{Ended}
 use Rattle.h41_serving.specs.Statuses.{EndsTask, status_of_ended}
 use Rattle.h41_serving.specs.Tasks.{TaskEnds}
 
--- The status that says how a task ended.
-pub tells_end : (task : Task) (ended : Ended) (status : ℕ) (known : Option (List ℕ)) → status ≡ status_of_ended ended
-    → IfSome known (TaskEnds task ended) → IfSome known (EndsTask task status)
-tells_end task ended status None is ends = tt
-tells_end task ended status (Some input) is ends = (ended, ends, is)
-
 -- The error that belongs to a set error flag.
 pub is_read : {T : Type 0} {mark : Bool} (fault : Fault) (result : Result T Fault) → result ≡ Err fault
     → (result ≢ Err ReadFault → mark ≡ false) → mark ≡ true → fault ≡ ReadFault

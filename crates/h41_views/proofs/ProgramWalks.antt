@@ -1,23 +1,17 @@
 -- Walks along the lines of program memory.
-use Rattle.std.proofs.Common.{◌≡◌, ℕ, Bool, true, false, List, [], ◌∷◌, ◌++◌, flat_map, refl, sym, ap, subst, append_assoc, append-nil, ◌∙◌}
-use Rattle.std.proofs.Common.{true≢false}
+use Rattle.std.proofs.Common.{◌≡◌, ℕ, Bool, true, false, List, [], ◌∷◌, ◌++◌, flat_map, sym, ap, subst, append_assoc, append-nil, ◌∙◌}
 use Rattle.std.proofs.lemmas.Grind.{flat_map-append}
 use Rattle.std.specs.Prelude.{MatchBool}
 use Rattle.h41_program.specs.declared.listed_line.ListedLine.{ListedLine}
 use Rattle.h41_program.specs.Lines.{is_final_end}
 use Rattle.h41_program.specs.ProgramBytes.{final_position, program_bytes}
 use Rattle.h41_program.specs.FirstLines.{IsFirst, NoneFrom, behind}
-use Rattle.h41_program.specs.ProgramLines.{LinesFrom, Reads}
+use Rattle.h41_program.specs.ProgramLines.{Reads}
+use Rattle.h41_program.proofs.Walks.{from_reads, reads_last}
 use Rattle.h41_ram.specs.RegisterMap.{RegisterMap, is_sound}
 use Rattle.h41_views.specs.ProgramListing.{ListsProgram, listed_line}
 
--- The list from a line on that is .END., and from one that is not.
-reads_last : (bytes : List ℕ) (final at next : ℕ) (listed : ListedLine) → IsFirst bytes final at listed next
-    → is_final_end listed.line ≡ true → Reads bytes final at (listed ∷ [])
-reads_last bytes final at next listed is last =
-    let none : ◌≡◌ {A = List ListedLine} [] [] = refl in
-    (is.first, subst (λ (t : Bool). MatchBool t (◌≡◌ {A = List ListedLine} [] []) (Reads bytes final (behind listed) [])) (sym last) none)
-
+-- The list from a line on that is not .END.
 reads_on : (bytes : List ℕ) (final at next : ℕ) (listed : ListedLine) (rest : List ListedLine) → IsFirst bytes final at listed next
     → is_final_end listed.line ≡ false → Reads bytes final next rest → Reads bytes final at (listed ∷ rest)
 reads_on bytes final at next listed rest is other reads = (
@@ -26,19 +20,12 @@ reads_on bytes final at next listed rest is other reads = (
       (subst (λ (n : ℕ). Reads bytes final n rest) is.behind reads),
 )
 
-from_sound : (memory : RegisterMap) (at : ℕ) (lines : List ListedLine) → is_sound memory ≡ true
-    → Reads (program_bytes memory) (final_position memory) at lines → LinesFrom memory at lines
-from_sound memory at lines sound reads = record { sound = λ _. reads; lost = λ lost. absurd (true≢false (sym sound ∙ lost)) }
-
 -- These lines were listed, none of them .END., and the list continues from a position.
 pub record Listed (memory : RegisterMap) (listing : List ℕ) (at : ℕ) : Type 0 where
   pub lines : List ListedLine
   pub text : listing ≡ flat_map listed_line lines
   pub joins : (rest : List ListedLine) → Reads (program_bytes memory) (final_position memory) at rest
       → Reads (program_bytes memory) (final_position memory) 0 (lines ++ rest)
-
-pub listed_none : (memory : RegisterMap) → Listed memory [] 0
-listed_none memory = record { lines = []; text = refl; joins = λ rest reads. reads }
 
 listed_text : (listing : List ℕ) (lines : List ListedLine) (listed : ListedLine) (next : List ℕ) → listing ≡ flat_map listed_line lines
     → next ≡ listing ++ listed_line listed → next ≡ flat_map listed_line (lines ++ listed ∷ [])
@@ -64,7 +51,7 @@ pub lists_final : (memory : RegisterMap) (listing next : List ℕ) (at behind : 
     → next ≡ listing ++ listed_line listed → ListsProgram memory next
 lists_final memory listing next at behind listed sound before is last more = (
   before.lines ++ listed ∷ [],
-  from_sound memory 0 (before.lines ++ listed ∷ []) sound
+  from_reads memory 0 (before.lines ++ listed ∷ []) sound
       (before.joins (listed ∷ []) (reads_last (program_bytes memory) (final_position memory) at behind listed is last)),
   listed_text listing before.lines listed next before.text more,
 )
@@ -73,9 +60,6 @@ pub lists_none : (memory : RegisterMap) (listing : List ℕ) (at : ℕ) → is_s
     → NoneFrom (program_bytes memory) (final_position memory) at → ListsProgram memory listing
 lists_none memory listing at sound before none = (
   before.lines ++ [],
-  from_sound memory 0 (before.lines ++ []) sound (before.joins [] none),
+  from_reads memory 0 (before.lines ++ []) sound (before.joins [] none),
   before.text ∙ ap (flat_map listed_line) (sym (append-nil before.lines)),
 )
-
-pub lists_lost : (memory : RegisterMap) → is_sound memory ≡ false → ListsProgram memory []
-lists_lost memory lost = ([], record { sound = λ sound. absurd (true≢false (sym sound ∙ lost)); lost = λ _. refl }, refl)

@@ -21,83 +21,27 @@ use Rattle.h41_xrom.specs.declared.refusal.CalculatorRefusal.TheVariants.{Memory
 -- A line that keys store is one that programs can contain.
 inner : (line : Line) → IsTrue (is_storable line) → IsTrue (is_inner line)
 inner lines.Null is = is
-inner (lines.LocalLabel a) is = is
-inner (lines.Number a) is = is
-inner (lines.Named a b) is = is
-inner (lines.Register a b) is = is
-inner (lines.Plain a) is = is
-inner (lines.WithOperand a b) is = is
-inner (lines.Module a b) is = is
-inner (lines.BranchIndirect a b) is = is
-inner (lines.ShortGoTo a b) is = is
-inner (lines.GlobalLabel a b c) is = is
-inner (lines.End a b) is = is
-inner (lines.FinalEnd a b) is = is
-inner (lines.BranchTo a b c d) is = is
-inner (lines.Text a) is = is
+inner line is = is
 
 -- Memory is sound.
 in_sound : (action : Action) (memory : RegisterMap) → IsTrue (is_sound memory) → StoresLine action → IsActed action memory
 in_sound actions.Nothing memory sound stored = tt
 in_sound actions.Stop memory sound stored = tt
-in_sound actions.Run memory sound stored = sound
-in_sound actions.Step memory sound stored = sound
-in_sound actions.StepBack memory sound stored = sound
-in_sound (actions.CarryOut a) memory sound stored = sound
 in_sound (actions.Insert a) memory sound stored = (sound, inner a stored)
 in_sound (actions.Replace a) memory sound stored = (sound, inner a stored)
-in_sound actions.Delete memory sound stored = sound
-in_sound (actions.BeginNumber a) memory sound stored = sound
-in_sound (actions.ChangeNumber a) memory sound stored = sound
-in_sound actions.EndNumber memory sound stored = sound
-in_sound actions.ToggleAlpha memory sound stored = sound
-in_sound (actions.BeginText a) memory sound stored = sound
-in_sound (actions.AddLetter a) memory sound stored = sound
-in_sound actions.TakeLetter memory sound stored = sound
-in_sound actions.ClearAlpha memory sound stored = sound
-in_sound actions.GoToEnd memory sound stored = sound
+in_sound action memory sound stored = sound
 
 -- A program runs.
 in_run : (action : Action) (memory : RegisterMap) → IsQuiet modes.Run action → IsActed action memory
 in_run actions.Nothing memory quiet = tt
 in_run actions.Stop memory quiet = tt
-in_run actions.Run memory quiet = absurd quiet
-in_run actions.Step memory quiet = absurd quiet
-in_run actions.StepBack memory quiet = absurd quiet
-in_run (actions.CarryOut a) memory quiet = absurd quiet
-in_run (actions.Insert a) memory quiet = absurd quiet
-in_run (actions.Replace a) memory quiet = absurd quiet
-in_run actions.Delete memory quiet = absurd quiet
-in_run (actions.BeginNumber a) memory quiet = absurd quiet
-in_run (actions.ChangeNumber a) memory quiet = absurd quiet
-in_run actions.EndNumber memory quiet = absurd quiet
-in_run actions.ToggleAlpha memory quiet = absurd quiet
-in_run (actions.BeginText a) memory quiet = absurd quiet
-in_run (actions.AddLetter a) memory quiet = absurd quiet
-in_run actions.TakeLetter memory quiet = absurd quiet
-in_run actions.ClearAlpha memory quiet = absurd quiet
-in_run actions.GoToEnd memory quiet = absurd quiet
+in_run action memory quiet = absurd quiet
 
 -- A function runs.
 in_micro : (caller : Caller) (action : Action) (memory : RegisterMap) → IsQuiet (modes.Micro caller) action → IsActed action memory
 in_micro caller actions.Nothing memory quiet = tt
 in_micro caller actions.Stop memory quiet = tt
-in_micro caller actions.Run memory quiet = absurd quiet
-in_micro caller actions.Step memory quiet = absurd quiet
-in_micro caller actions.StepBack memory quiet = absurd quiet
-in_micro caller (actions.CarryOut a) memory quiet = absurd quiet
-in_micro caller (actions.Insert a) memory quiet = absurd quiet
-in_micro caller (actions.Replace a) memory quiet = absurd quiet
-in_micro caller actions.Delete memory quiet = absurd quiet
-in_micro caller (actions.BeginNumber a) memory quiet = absurd quiet
-in_micro caller (actions.ChangeNumber a) memory quiet = absurd quiet
-in_micro caller actions.EndNumber memory quiet = absurd quiet
-in_micro caller actions.ToggleAlpha memory quiet = absurd quiet
-in_micro caller (actions.BeginText a) memory quiet = absurd quiet
-in_micro caller (actions.AddLetter a) memory quiet = absurd quiet
-in_micro caller actions.TakeLetter memory quiet = absurd quiet
-in_micro caller actions.ClearAlpha memory quiet = absurd quiet
-in_micro caller actions.GoToEnd memory quiet = absurd quiet
+in_micro caller action memory quiet = absurd quiet
 
 is_kept : (sound : Bool) → ◌≡◌ {A = Option CalculatorRefusal} None (then_some (not sound) MemoryLost) → sound ≡ true
 is_kept true free = refl

@@ -38,43 +38,14 @@ never mode action after is = absurd (let no : ⊥ = cc in no)
 quiet_in_run : (meaning : Meaning) (input : Input) (action : Action) (after : Input)
     → keyboard.while_running input meaning ≡ Some (does action after) → IsQuiet modes.Run action
 quiet_in_run means.Nothing input action after is = never modes.Run action after is
-quiet_in_run means.Shift input action after is = quiet_by modes.Run actions.Nothing action input after tt is
-quiet_in_run means.Alpha input action after is = quiet_by modes.Run actions.Nothing action input after tt is
-quiet_in_run means.Program input action after is = quiet_by modes.Run actions.Nothing action input after tt is
-quiet_in_run means.Step input action after is = quiet_by modes.Run actions.Nothing action input after tt is
-quiet_in_run means.StepBack input action after is = quiet_by modes.Run actions.Nothing action input after tt is
 quiet_in_run means.RunStop input action after is = quiet_by modes.Run actions.Stop action input after tt is
-quiet_in_run means.Back input action after is = quiet_by modes.Run actions.Nothing action input after tt is
-quiet_in_run means.LetterBack input action after is = quiet_by modes.Run actions.Nothing action input after tt is
-quiet_in_run (means.Digit it) input action after is = quiet_by modes.Run actions.Nothing action input after tt is
-quiet_in_run means.Point input action after is = quiet_by modes.Run actions.Nothing action input after tt is
-quiet_in_run means.Exponent input action after is = quiet_by modes.Run actions.Nothing action input after tt is
-quiet_in_run means.Sign input action after is = quiet_by modes.Run actions.Nothing action input after tt is
-quiet_in_run (means.Function it) input action after is = quiet_by modes.Run actions.Nothing action input after tt is
-quiet_in_run (means.Ask it) input action after is = quiet_by modes.Run actions.Nothing action input after tt is
-quiet_in_run (means.Letter it) input action after is = quiet_by modes.Run actions.Nothing action input after tt is
-quiet_in_run means.Append input action after is = quiet_by modes.Run actions.Nothing action input after tt is
+quiet_in_run meaning input action after is = quiet_by modes.Run actions.Nothing action input after tt is
 
 -- A function runs.
 quiet_in_micro : (caller : Caller) (meaning : Meaning) (input : Input) (action : Action) (after : Input)
     → keyboard.while_in_microcode input meaning ≡ Some (does action after) → IsQuiet (modes.Micro caller) action
 quiet_in_micro caller means.Nothing input action after is = never (modes.Micro caller) action after is
-quiet_in_micro caller means.Shift input action after is = quiet_by (modes.Micro caller) actions.Nothing action input after tt is
-quiet_in_micro caller means.Alpha input action after is = quiet_by (modes.Micro caller) actions.Nothing action input after tt is
-quiet_in_micro caller means.Program input action after is = quiet_by (modes.Micro caller) actions.Nothing action input after tt is
-quiet_in_micro caller means.Step input action after is = quiet_by (modes.Micro caller) actions.Nothing action input after tt is
-quiet_in_micro caller means.StepBack input action after is = quiet_by (modes.Micro caller) actions.Nothing action input after tt is
-quiet_in_micro caller means.RunStop input action after is = quiet_by (modes.Micro caller) actions.Nothing action input after tt is
-quiet_in_micro caller means.Back input action after is = quiet_by (modes.Micro caller) actions.Nothing action input after tt is
-quiet_in_micro caller means.LetterBack input action after is = quiet_by (modes.Micro caller) actions.Nothing action input after tt is
-quiet_in_micro caller (means.Digit it) input action after is = quiet_by (modes.Micro caller) actions.Nothing action input after tt is
-quiet_in_micro caller means.Point input action after is = quiet_by (modes.Micro caller) actions.Nothing action input after tt is
-quiet_in_micro caller means.Exponent input action after is = quiet_by (modes.Micro caller) actions.Nothing action input after tt is
-quiet_in_micro caller means.Sign input action after is = quiet_by (modes.Micro caller) actions.Nothing action input after tt is
-quiet_in_micro caller (means.Function it) input action after is = quiet_by (modes.Micro caller) actions.Nothing action input after tt is
-quiet_in_micro caller (means.Ask it) input action after is = quiet_by (modes.Micro caller) actions.Nothing action input after tt is
-quiet_in_micro caller (means.Letter it) input action after is = quiet_by (modes.Micro caller) actions.Nothing action input after tt is
-quiet_in_micro caller means.Append input action after is = quiet_by (modes.Micro caller) actions.Nothing action input after tt is
+quiet_in_micro caller meaning input action after is = quiet_by (modes.Micro caller) actions.Nothing action input after tt is
 
 quiet : (mode : Mode) (input : Input) (key : Key) (flags : Flags) (action : Action) (after : Input)
     → presses input key (activity_of mode) flags ≡ Some (does action after) → IsQuiet mode action

@@ -1,4 +1,3 @@
-use Rattle.std.proofs.Common.{refl, inl, inr}
 use Rattle.std.proofs.Common.{rules}
 use Rattle.h41_codes.proofs.ShortHeads.{short_head, size_of_head}
 use Rattle.h41_codes.proofs.short_lines.short_size.Goals as goal

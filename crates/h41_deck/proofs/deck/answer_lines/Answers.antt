@@ -323,9 +323,3 @@ returns-in_err-next-clause-bound g c =
 pub returns-in_err-flush-clause-bound : goal.returns-in_err-flush-clause-bound
 returns-in_err-flush-clause-bound g c =
     gives_within c.read_first_line.new.input _ _ (c.in_ok-first.ensures.counted _ c.loop-first.invariant.counted)
-
-pub line-requires : goal.line-requires
-line-requires g c = assumption
-
-pub opens_block-requires : goal.opens_block-requires
-opens_block-requires g c = assumption

@@ -15,6 +15,3 @@ returns-in_ok-flush-in-Err-OutOfMemory-clause-left g c =
     let left = rw c.in-Err-OutOfMemory.field-0-is at c.in-Err-OutOfMemory.ensures.lines.left in
     leaves_passed g.row.REGS g.R.Source g.W.Sink c.args.reader.now c.answer_deck.new.reader c.args.writer.now c.answer_deck.new.writer
     c.flush.new.writer left c.flush.ensures.bytes
-
-pub answer_deck-requires : goal.answer_deck-requires
-answer_deck-requires g c = assumption

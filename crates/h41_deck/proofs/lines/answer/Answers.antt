@@ -20,12 +20,3 @@ returns-in_err-end-in-Refused-clause-reply g c =
 pub returns-in-Given-clause-memory : goal.returns-in-Given-clause-memory
 returns-in-Given-clause-memory g c = λ is. rw c.in-Given.is
     (given_memory (judgement c.in-Given.field-0.block) c.in-Given.field-0.command (c.apply.ensures.accepted is) (c.apply.ensures.memory is))
-
-pub apply-requires : goal.apply-requires
-apply-requires g c = assumption
-
-pub end-requires : goal.end-requires
-end-requires g c = assumption
-
-pub from-requires : goal.from-requires
-from-requires g c = assumption

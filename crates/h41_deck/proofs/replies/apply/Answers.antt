@@ -10,6 +10,3 @@ pub returns-in_err-end-clause-reply : goal.returns-in_err-end-clause-reply
 returns-in_err-end-clause-reply g c =
     let failed = err_from_is_err_and c.from_residual-in_err-end.result c.from_residual-in_err-end.ensures.1 in
     rw (failed.1, failed.2) (ends_part _ _ _ _ _ _ c.in_ok-refusal.refusal c.in_ok-refusal.ensures.text c.in_err-end.ensures.written)
-
-pub say-requires : goal.say-requires
-say-requires g c = assumption

@@ -1,9 +1,8 @@
 use Rattle.std.proofs.Common.{◌≡◌, ◌≢◌, ℕ, true, refl}
 use Rattle.h41_breakpoints.specs.declared.location.Location.{Location}
 use Rattle.h41_commands.specs.declared.commands.Command.{Command}
-use Rattle.h41_commands.specs.declared.commands.Command.TheVariants.{Break, Call, Key, Load, Plug, Reset, Run, Show, Size, Step, Trace}
+use Rattle.h41_commands.specs.declared.commands.Command.TheVariants.{Break, Call, Key, Reset, Size, Step}
 use Rattle.h41_commands.specs.declared.commands.Command.TheVariants.{Unbreak, Unplug}
-use Rattle.h41_commands.specs.declared.commands.Command.TheVariants as commands
 use Rattle.h41_commands.specs.declared.commands.keys.PressedKeys.{PressedKeys}
 use Rattle.h41_deck.specs.Replies.{is_silent}
 use Rattle.h41_deck.proofs.replies.carry_out.Goals as goal
@@ -37,12 +36,6 @@ silent_named : (command : Command) → is_silent command ≡ true → ((page : �
     → ((count : ℕ) → command ≢ Size count) → command ≢ Reset → ((address : ℕ) → command ≢ Call address)
     → ((keys : PressedKeys) → command ≢ Key keys) → ((count : ℕ) → command ≢ Step count)
     → ((location : Location) → command ≢ Break location) → ((location : Location) → command ≢ Unbreak location) → ⊥
-silent_named (Plug kind page bank writable) silent unplug size reset call key step break unbreak = cc
-silent_named (Load kind) silent unplug size reset call key step break unbreak = cc
-silent_named (Run limit) silent unplug size reset call key step break unbreak = cc
-silent_named (Trace count) silent unplug size reset call key step break unbreak = cc
-silent_named (commands.List address count) silent unplug size reset call key step break unbreak = cc
-silent_named (Show view) silent unplug size reset call key step break unbreak = cc
 silent_named (Unplug page) silent unplug size reset call key step break unbreak = unplug page refl
 silent_named (Size count) silent unplug size reset call key step break unbreak = size count refl
 silent_named Reset silent unplug size reset call key step break unbreak = reset refl
@@ -51,33 +44,10 @@ silent_named (Key keys) silent unplug size reset call key step break unbreak = k
 silent_named (Step count) silent unplug size reset call key step break unbreak = step count refl
 silent_named (Break location) silent unplug size reset call key step break unbreak = break location refl
 silent_named (Unbreak location) silent unplug size reset call key step break unbreak = unbreak location refl
+silent_named command silent unplug size reset call key step break unbreak = cc
 
 pub unreachable-requires : goal.unreachable-requires
 unreachable-requires g c =
     let other = c.in_default in
     silent_named c.args.command c.requires other.not-Unplug other.not-Size other.not-Reset other.not-Call other.not-Key
     other.not-Step other.not-Break other.not-Unbreak
-
-pub call-requires : goal.call-requires
-call-requires g c = assumption
-
-pub press-requires : goal.press-requires
-press-requires g c = assumption
-
-pub reset-requires : goal.reset-requires
-reset-requires g c = assumption
-
-pub set_break-requires : goal.set_break-requires
-set_break-requires g c = assumption
-
-pub size-requires : goal.size-requires
-size-requires g c = assumption
-
-pub step-requires : goal.step-requires
-step-requires g c = assumption
-
-pub unbreak-requires : goal.unbreak-requires
-unbreak-requires g c = assumption
-
-pub unplug-requires : goal.unplug-requires
-unplug-requires g c = assumption

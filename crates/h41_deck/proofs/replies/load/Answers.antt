@@ -8,12 +8,3 @@ returns-in-Ok-clause-loads g c =
     loads_taken c.args.block c.args.bench.now.state _ c.in-Ok.bytes.items c.in_ok-bytes.field-0
     c.load_bytes.result (c.in_ok-bytes.ensures).bytes (ap values_in c.in-Ok.is)
     (rw c.deref.ensures.value at c.load_bytes.ensures)
-
-pub from-requires : goal.from-requires
-from-requires g c = assumption
-
-pub into_bytes-requires : goal.into_bytes-requires
-into_bytes-requires g c = assumption
-
-pub load_bytes-requires : goal.load_bytes-requires
-load_bytes-requires g c = assumption

@@ -25,6 +25,3 @@ returns g c =
           c.in_default.not-OutOfMemory c.in-Err.ensures.unchanged);
       unchanged = tt;
     }
-
-pub from-requires : goal.from-requires
-from-requires g c = assumption

@@ -94,9 +94,3 @@ returns-in_err-load-in-Load-clause-mark g c =
 
 pub returns-in_err-load-in-Load-clause-clear : goal.returns-in_err-load-in-Load-clause-clear
 returns-in_err-load-in-Load-clause-clear g c = λ other. c.requires.clear
-
-pub from-requires : goal.from-requires
-from-requires g c = assumption
-
-pub refusal-requires : goal.refusal-requires
-refusal-requires g c = assumption

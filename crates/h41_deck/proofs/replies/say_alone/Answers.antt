@@ -182,18 +182,3 @@ returns-in-Show-clause-text g c =
     alone_is (λ (item : Spelled). LeavesText c.show.result item c.args.bench.now.state c.args.bench.now.state g.W.Sink.contents
     c.args.writer.now
     c.show.new.writer) c.args.command (commands.Show c.in-Show.view) c.in-Show.is c.show.ensures.text
-
-pub listed-requires : goal.listed-requires
-listed-requires g c = assumption
-
-pub run-requires : goal.run-requires
-run-requires g c = assumption
-
-pub say_made-requires : goal.say_made-requires
-say_made-requires g c = assumption
-
-pub show-requires : goal.show-requires
-show-requires g c = assumption
-
-pub trace-requires : goal.trace-requires
-trace-requires g c = assumption

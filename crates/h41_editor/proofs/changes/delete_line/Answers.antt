@@ -27,18 +27,3 @@ returns-in-Start-clause-line g c =
     c.if-focal.false c.in_ok-line_at.ensures c.if-is_final_end.ensures c.in-Memory.is c.in_ok-byte-in-Memory.ensures.lines
     c.in_ok-byte-in-Memory.ensures.answer
     (rw (c.halt_at.ensures.state, c.in-Start.is) refl)
-
-pub delete-requires : goal.delete-requires
-delete-requires g c = assumption
-
-pub halt_at-requires : goal.halt_at-requires
-halt_at-requires g c = assumption
-
-pub is_final_end-requires : goal.is_final_end-requires
-is_final_end-requires g c = assumption
-
-pub line_at-requires : goal.line_at-requires
-line_at-requires g c = assumption
-
-pub show_line-requires : goal.show_line-requires
-show_line-requires g c = assumption

@@ -20,18 +20,3 @@ returns-in_ok-byte-in-Memory-clause-line g c =
     c.in-Some.shown c.in_ok-before-in-Some.before c.in-Memory.before c.in_ok-byte-in-Memory.byte
     refl c.in-Some.ensures c.in_ok-before-in-Some.ensures.place c.in-Memory.is
     c.in_ok-byte-in-Memory.ensures.lines c.in_ok-byte-in-Memory.ensures.answer c.show_line.ensures.state
-
-pub insert-requires : goal.insert-requires
-insert-requires g c = assumption
-
-pub numbered_line-requires : goal.numbered_line-requires
-numbered_line-requires g c = assumption
-
-pub place_for_line-requires : goal.place_for_line-requires
-place_for_line-requires g c = assumption
-
-pub positions_are_read-requires : goal.positions_are_read-requires
-positions_are_read-requires g c = assumption
-
-pub show_line-requires : goal.show_line-requires
-show_line-requires g c = assumption

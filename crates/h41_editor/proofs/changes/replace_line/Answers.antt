@@ -15,9 +15,3 @@ returns-in_ok-byte-in-Memory-clause-line g c =
     line_replaced c.args.line _ _ c.replace.new.ram.registers c.show_line.new.focal.state _
     c.in_ok-byte-in-Memory.byte (opened c.args.ram.now.registers _ _ c.focal.view_is)
     c.in-Memory.is c.in_ok-byte-in-Memory.ensures.lines c.in_ok-byte-in-Memory.ensures.answer c.show_line.ensures.state
-
-pub replace-requires : goal.replace-requires
-replace-requires g c = assumption
-
-pub show_line-requires : goal.show_line-requires
-show_line-requires g c = assumption

@@ -5,8 +5,7 @@ use Rattle.std.proofs.lemmas.Bool.Decides.{nat_tests}
 use Rattle.std.proofs.lemmas.List.FromFn.{map-range_with_len_more}
 use Rattle.h41_codes.specs.Heads.{BeginsKind, IsIn}
 use Rattle.h41_codes.specs.declared.heads.Head.{Head}
-use Rattle.h41_codes.specs.declared.heads.Head.TheVariants.{Linked, Named, Nothing, Number, OneByte, ThreeBytes, TwoBytes}
-use Rattle.h41_codes.specs.declared.heads.Head.TheVariants as heads
+use Rattle.h41_codes.specs.declared.heads.Head.TheVariants.{Number, OneByte, TwoBytes}
 use Rattle.h41_program.specs.ProgramBytes.{program_byte}
 use Rattle.h41_plain_numbers.specs.declared.plain.PlainDigits.{PlainDigits}
 use Rattle.h41_plain_numbers.specs.private.PlainReading.{bytes_from, no_digits, with_code, with_codes}
@@ -23,14 +22,10 @@ other : (byte : ℕ) (head : Head) → BeginsKind byte head → (head ≡ Number
 other byte OneByte (inl low) not on = omega (arith, low, on.0)
 other byte OneByte (inr high) not on = omega (arith, high.0, on.1)
 other byte Number begins not on = not refl
-other byte Named begins not on = omega (arith, begins.0, on.1)
 other byte TwoBytes (inl one) not on = omega (arith, one.0, on.1)
 other byte TwoBytes (inr (inl one)) not on = omega (arith, one.0, on.1)
 other byte TwoBytes (inr (inr one)) not on = omega (arith, one.0, on.1)
-other byte Linked begins not on = omega (arith, begins.0, on.1)
-other byte ThreeBytes begins not on = omega (arith, begins.0, on.1)
-other byte heads.Text begins not on = omega (arith, begins.0, on.1)
-other byte Nothing begins not on = omega (arith, begins.0, on.1)
+other byte head begins not on = omega (arith, begins.0, on.1)
 
 pub loop-position-preserved : goal.loop-position-preserved
 loop-position-preserved g c =

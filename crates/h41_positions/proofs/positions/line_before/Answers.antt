@@ -5,12 +5,6 @@ use Rattle.h41_positions.proofs.PageAnswers.{finds_there}
 use Rattle.h41_walk.proofs.MemoryPrograms.{program_here}
 use Rattle.h41_positions.proofs.positions.line_before.Goals as goal
 
-pub byte_found-requires : goal.byte_found-requires
-byte_found-requires g c = assumption
-
-pub offset_found-requires : goal.offset_found-requires
-offset_found-requires g c = assumption
-
 pub returns-in-Page : goal.returns-in-Page
 returns-in-Page g c =
     let pages = c.args.pages.now in

@@ -12,9 +12,3 @@ returns-in-Some-2 g c lines from =
     stays
     ∙ EditPlaces.in_front c.args.count lines (Some c.in-Some.found.listed) c.if-count-eq0.false
     (sym (ap listed_of c.in-Some.is) ∙ c.line_behind.ensures.line lines from)
-
-pub is_end-requires : goal.is_end-requires
-is_end-requires g c = assumption
-
-pub line_behind-requires : goal.line_behind-requires
-line_behind-requires g c = assumption

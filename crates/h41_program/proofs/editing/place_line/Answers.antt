@@ -47,15 +47,3 @@ pub returns-in_err-count-clause-lines : goal.returns-in_err-count-clause-lines
 returns-in_err-count-clause-lines g c =
     let edits = c.in_err-count.ensures.lines in
     (edits.0, edits.1, let p = err_from_is_err_and c.from_residual.result c.from_residual.ensures.1 in rw (p.1, p.2) edits.2)
-
-pub byte_round_trip-requires : goal.byte_round_trip-requires
-byte_round_trip-requires g c = assumption
-
-pub change_at-requires : goal.change_at-requires
-change_at-requires g c = assumption
-
-pub know_ranges-requires : goal.know_ranges-requires
-know_ranges-requires g c = assumption
-
-pub line_behind-requires : goal.line_behind-requires
-line_behind-requires g c = assumption

@@ -80,15 +80,3 @@ pub returns-clause-sound : goal.returns-clause-sound
 returns-clause-sound g c =
     load_sound c.args.ram.now.registers c.write.new.ram.registers c.args.bytes.now (Ok c.len-start.result) c.requires
     (returns-clause-lines g c)
-
-pub close-requires : goal.close-requires
-close-requires g c = assumption
-
-pub packed_program-requires : goal.packed_program-requires
-packed_program-requires g c = assumption
-
-pub put_loaded-requires : goal.put_loaded-requires
-put_loaded-requires g c = assumption
-
-pub write-requires : goal.write-requires
-write-requires g c = assumption

@@ -20,12 +20,3 @@ returns g c k few inside =
     let there : c.max-below.result ≡ curtain_of memory - 1 - at / 7 - 1 =
     omega (arith, c.max-below.ensures, address, low, behind, inside) in
     c.read_main-2.ensures ∙ ap (register_at memory) there)
-
-pub bytes_before-requires : goal.bytes_before-requires
-bytes_before-requires g c = assumption
-
-pub curtain-requires : goal.curtain-requires
-curtain-requires g c = assumption
-
-pub registers_before-requires : goal.registers_before-requires
-registers_before-requires g c = assumption

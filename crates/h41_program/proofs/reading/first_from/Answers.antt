@@ -17,18 +17,3 @@ returns-in-Some-two_byte_line-clause-first g c =
     c.args.ram.now.registers c.requires c.args.at last.result c.byte_at-byte.result c.byte_at.result
     last.ensures.value last.ensures.count c.if-at-last-2.true c.byte_at-byte.ensures c.byte_at.ensures
     found.0 c.in-Some-two_byte_line.line found.1
-
-pub byte_round_trip-requires : goal.byte_round_trip-requires
-byte_round_trip-requires g c = assumption
-
-pub first_bytes-requires : goal.first_bytes-requires
-first_bytes-requires g c = assumption
-
-pub first_decoded-requires : goal.first_decoded-requires
-first_decoded-requires g c = assumption
-
-pub one_byte_line-requires : goal.one_byte_line-requires
-one_byte_line-requires g c = assumption
-
-pub two_byte_line-requires : goal.two_byte_line-requires
-two_byte_line-requires g c = assumption

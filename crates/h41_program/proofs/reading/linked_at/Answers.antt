@@ -43,9 +43,3 @@ returns-clause-some g c =
     c.byte_at-third.result c.byte_at-third.ensures (omega (arith, c.if-limit-at-lt-END_BYTES.false))
     (subst (λ (b : ℕ). b < 256) c.byte_at-first.ensures own) (subst (λ (b : ℕ). b < 256) c.byte_at-second.ensures next)
     (omega arith) (omega (arith, c.if-third.false, c.if-third-gt240.false)) c.if-third-eq0.false
-
-pub fitting-requires : goal.fitting-requires
-fitting-requires g c = assumption
-
-pub from-requires : goal.from-requires
-from-requires g c = assumption

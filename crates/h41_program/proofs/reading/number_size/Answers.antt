@@ -14,14 +14,10 @@ other : (first : ℕ) (head : Head) → BeginsKind first head → (head ≡ head
 other first heads.OneByte (inl low) not on = omega (arith, low, on.0)
 other first heads.OneByte (inr high) not on = omega (arith, high.0, on.1)
 other first heads.Number kind not on = not refl
-other first heads.Named kind not on = omega (arith, kind.0, on.1)
 other first heads.TwoBytes (inl low) not on = omega (arith, low.0, on.1)
 other first heads.TwoBytes (inr (inl middle)) not on = omega (arith, middle.0, on.1)
 other first heads.TwoBytes (inr (inr high)) not on = omega (arith, high.0, on.1)
-other first heads.Linked kind not on = omega (arith, kind.0, on.1)
-other first heads.ThreeBytes kind not on = omega (arith, kind.0, on.1)
-other first heads.Text kind not on = omega (arith, kind.0, on.1)
-other first heads.Nothing kind not on = omega (arith, kind.0, on.1)
+other first head kind not on = omega (arith, kind.0, on.1)
 
 pub returns-in_default-clause-line : goal.returns-in_default-clause-line
 returns-in_default-clause-line g c =

@@ -45,9 +45,3 @@ returns-clause-behind g c =
     let bound = c.final_position-last.ensures.bound in
     some_behind c.args.ram.now.registers c.past_nulls-position.result.0 c.final_position-last.result 2240 (omega (arith, bound))
     c.past_nulls-position.ensures.to c.place_at.result c.place_at.ensures.some
-
-pub byte_round_trip-requires : goal.byte_round_trip-requires
-byte_round_trip-requires g c = assumption
-
-pub final_place-requires : goal.final_place-requires
-final_place-requires g c = assumption

@@ -41,12 +41,3 @@ returns-in-None-clause-none g c =
     (first_read c.args.ram.now.registers c.args.at c.bytes_from-bytes.result c.number_byte-first.result inside
     c.bytes_from-bytes.ensures c.number_byte-first.ensures)
     c.in-None.ensures.none
-
-pub byte_round_trip-requires : goal.byte_round_trip-requires
-byte_round_trip-requires g c = assumption
-
-pub first_bytes-requires : goal.first_bytes-requires
-first_bytes-requires g c = assumption
-
-pub short_size-requires : goal.short_size-requires
-short_size-requires g c = assumption

@@ -30,12 +30,3 @@ returns-then-byte_at-name g c line has =
 pub returns-in-None : goal.returns-in-None
 returns-in-None g c line has =
     absurd (c.in-None.ensures.none (record { position = c.args.place.now.position; line = line }) has.first)
-
-pub first_from-requires : goal.first_from-requires
-first_from-requires g c = assumption
-
-pub from-requires : goal.from-requires
-from-requires g c = assumption
-
-pub is_named-requires : goal.is_named-requires
-is_named-requires g c = assumption

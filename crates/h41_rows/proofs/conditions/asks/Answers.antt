@@ -54,15 +54,3 @@ returns-in-XAtMostZero g c =
     rw c.in-XAtMostZero.is
     (λ named. register_below int_le x _ c.at_most-in-XAtMostZero.result (held c.x-in-XAtMostZero.ensures)
     (c.at_most-in-XAtMostZero.ensures ∙ ap answer (held c.zero-in-XAtMostZero.ensures)))
-
-pub at_most-requires : goal.at_most-requires
-at_most-requires g c = assumption
-
-pub below-requires : goal.below-requires
-below-requires g c = assumption
-
-pub x-requires : goal.x-requires
-x-requires g c = assumption
-
-pub y-requires : goal.y-requires
-y-requires g c = assumption

@@ -61,12 +61,3 @@ returns-in-Err-clause-register g c =
     refl
     (works_without (value_along c.args.direction) c.read.result (Decimals 0) (flag_of c.args.ram.now.registers range_ignore)
     c.in-Err.fault (Err c.in-Err.fault) c.in-Err.ensures.0 c.in-Err.ensures.1 (is_without c.args.direction c.in-Err.fault))
-
-pub kept-requires : goal.kept-requires
-kept-requires g c = assumption
-
-pub number_in-requires : goal.number_in-requires
-number_in-requires g c = assumption
-
-pub read-requires : goal.read-requires
-read-requires g c = assumption

@@ -17,15 +17,3 @@ returns g c =
     then_written _ _ _ _ 3 c.args.register _ y c.set_status_register-4.ensures.written
     c.set_status_register-4.ensures.mark refl refl in
     record { change = λ named. x.registers; mark = x.passed.keeps; left = x.passed.left }
-
-pub set_status_register-requires : goal.set_status_register-requires
-set_status_register-requires g c = assumption
-
-pub set_status_register-requires-2 : goal.set_status_register-requires-2
-set_status_register-requires-2 g c = assumption
-
-pub set_status_register-requires-3 : goal.set_status_register-requires-3
-set_status_register-requires-3 g c = assumption
-
-pub set_status_register-requires-4 : goal.set_status_register-requires-4
-set_status_register-requires-4 g c = assumption

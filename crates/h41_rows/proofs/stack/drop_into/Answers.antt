@@ -17,15 +17,3 @@ returns g c =
     then_written _ _ _ _ 4 c.status_register-x.result _ z c.set_status_register-4.ensures.written
     c.set_status_register-4.ensures.mark c.status_register-x.ensures refl in
     record { change = λ named. last.registers; mark = last.passed.keeps; left = last.passed.left }
-
-pub set_status_register-requires : goal.set_status_register-requires
-set_status_register-requires g c = assumption
-
-pub set_status_register-requires-2 : goal.set_status_register-requires-2
-set_status_register-requires-2 g c = assumption
-
-pub set_status_register-requires-3 : goal.set_status_register-requires-3
-set_status_register-requires-3 g c = assumption
-
-pub set_status_register-requires-4 : goal.set_status_register-requires-4
-set_status_register-requires-4 g c = assumption

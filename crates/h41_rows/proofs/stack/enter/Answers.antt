@@ -14,12 +14,3 @@ returns g c =
     then_written _ _ _ _ 2 c.status_register-x.result _ z c.set_status_register-3.ensures.written
     c.set_status_register-3.ensures.mark c.status_register-x.ensures refl in
     record { change = λ register named. y.registers; mark = y.passed.keeps; left = y.passed.left }
-
-pub set_status_register-requires : goal.set_status_register-requires
-set_status_register-requires g c = assumption
-
-pub set_status_register-requires-2 : goal.set_status_register-requires-2
-set_status_register-requires-2 g c = assumption
-
-pub set_status_register-requires-3 : goal.set_status_register-requires-3
-set_status_register-requires-3 g c = assumption

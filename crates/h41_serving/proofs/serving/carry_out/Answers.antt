@@ -44,12 +44,3 @@ returns-in_ok-run_with-in-Run-clause-turns g c = rw c.in-Run.is c.run_with.ensur
 
 pub returns-in_err-run_with-in-Run-clause-turns : goal.returns-in_err-run_with-in-Run-clause-turns
 returns-in_err-run_with-in-Run-clause-turns g c = rw c.in-Run.is c.run_with.ensures.turns
-
-pub run_with-requires : goal.run_with-requires
-run_with-requires g c = assumption
-
-pub assemble_source-requires : goal.assemble_source-requires
-assemble_source-requires g c = assumption
-
-pub list_words-requires : goal.list_words-requires
-list_words-requires g c = assumption

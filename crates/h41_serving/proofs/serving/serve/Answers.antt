@@ -64,12 +64,3 @@ returns-in-Err-clause-fault g c = λ is. record {
   };
   line = c.tell.ensures.line;
 }
-
-pub carry_out-requires : goal.carry_out-requires
-carry_out-requires g c = assumption
-
-pub tell-requires : goal.tell-requires
-tell-requires g c = assumption
-
-pub tell_mistake-requires : goal.tell_mistake-requires
-tell_mistake-requires g c = assumption

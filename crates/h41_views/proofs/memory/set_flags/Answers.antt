@@ -55,6 +55,3 @@ loop-flag-preserved g c =
 
 pub returns : goal.returns
 returns g c = let last : c.loop-flag.flag ≡ 56 = omega arith in rw last at c.loop-flag.invariant.text
-
-pub flag-requires : goal.flag-requires
-flag-requires g c = assumption

@@ -67,7 +67,6 @@ module _ (pages : PageMap) (program_mode : Bool) (machine : Machine) where
       → ((line : Line) → a ≡ actions.Replace line → ⊥) → (a ≡ actions.Delete → ⊥)
       → ((number : Number) → a ≡ actions.BeginNumber number → ⊥) → ((number : Number) → a ≡ actions.ChangeNumber number → ⊥)
       → (a ≡ actions.EndNumber → ⊥) → (a ≡ actions.GoToEnd → ⊥) → Lettered a
-  letters_act actions.Nothing stop run step back out insert replace delete begin change end go = refl
   letters_act actions.Stop stop run step back out insert replace delete begin change end go = absurd (stop refl)
   letters_act actions.Run stop run step back out insert replace delete begin change end go = absurd (run refl)
   letters_act actions.Step stop run step back out insert replace delete begin change end go = absurd (step refl)
@@ -79,12 +78,8 @@ module _ (pages : PageMap) (program_mode : Bool) (machine : Machine) where
   letters_act (actions.BeginNumber number) stop run step back out insert replace delete begin change end go = absurd (begin number refl)
   letters_act (actions.ChangeNumber number) stop run step back out insert replace delete begin change end go = absurd (change number refl)
   letters_act actions.EndNumber stop run step back out insert replace delete begin change end go = absurd (end refl)
-  letters_act actions.ToggleAlpha stop run step back out insert replace delete begin change end go = refl
-  letters_act (actions.BeginText letter) stop run step back out insert replace delete begin change end go = refl
-  letters_act (actions.AddLetter letter) stop run step back out insert replace delete begin change end go = refl
-  letters_act actions.TakeLetter stop run step back out insert replace delete begin change end go = refl
-  letters_act actions.ClearAlpha stop run step back out insert replace delete begin change end go = refl
   letters_act actions.GoToEnd stop run step back out insert replace delete begin change end go = absurd (go refl)
+  letters_act a stop run step back out insert replace delete begin change end go = refl
 
 -- In sound memory it does not change the label cache.
 module _ (pages : PageMap) (program_mode done : Bool) (machine : Machine) (before after : CacheState) where
@@ -112,12 +107,8 @@ module _ (pages : PageMap) (program_mode done : Bool) (machine : Machine) (befor
   letters_keep (actions.ChangeNumber number) none stop run step back out insert replace delete begin change end go acted stays =
       absurd (change number refl)
   letters_keep actions.EndNumber none stop run step back out insert replace delete begin change end go acted stays = absurd (end refl)
-  letters_keep actions.ToggleAlpha none stop run step back out insert replace delete begin change end go acted stays = stays acted
-  letters_keep (actions.BeginText letter) none stop run step back out insert replace delete begin change end go acted stays = stays acted
-  letters_keep (actions.AddLetter letter) none stop run step back out insert replace delete begin change end go acted stays = stays acted
-  letters_keep actions.TakeLetter none stop run step back out insert replace delete begin change end go acted stays = stays acted
-  letters_keep actions.ClearAlpha none stop run step back out insert replace delete begin change end go acted stays = stays acted
   letters_keep actions.GoToEnd none stop run step back out insert replace delete begin change end go acted stays = absurd (go refl)
+  letters_keep a none stop run step back out insert replace delete begin change end go acted stays = stays acted
 
 left_over : (old from : LabelledMachine) (ram : RamState) → from ≡ old → LeavesMark from.ram ram → IsTrue (is_sound old.ram.registers)
     → cache_of (labelled_with ram from.focal) ≡ cache_of old
@@ -250,21 +241,6 @@ returns-in_default-clause-right g c =
     right_over c.kept_answers_stay_right.ensures.keeping c.args.machine.now _ c.type_letters.new.ram c.machine-in_default.view_is
     c.type_letters.ensures.mark
     c.requires.right
-
-pub begin_number-requires : goal.begin_number-requires
-begin_number-requires g c = assumption
-
-pub carried-requires : goal.carried-requires
-carried-requires g c = assumption
-
-pub change_number-requires : goal.change_number-requires
-change_number-requires g c = assumption
-
-pub edited-requires : goal.edited-requires
-edited-requires g c = assumption
-
-pub kept_answers_stay_right-requires : goal.kept_answers_stay_right-requires
-kept_answers_stay_right-requires g c = assumption
 
 pub returns-in-GoToEnd-clause-kept : goal.returns-in-GoToEnd-clause-kept
 returns-in-GoToEnd-clause-kept g c =

@@ -14,6 +14,3 @@ returns-clause-number g c =
           (ap (λ (focal : LabelledFocal). begun (machine_with c.machine.inside.ram.registers focal.state)) c.focal.view_is
           ∙ ap begun (ap machine_of c.machine.view_is)),
     )
-
-pub written-requires : goal.written-requires
-written-requires g c = assumption

@@ -89,12 +89,6 @@ returns-clause-steps g c =
     all_steps _ _ _ _ _ _ c.loop-made.invariant.0 c.loop-made.invariant.3 c.loop-made-test.false
     (c.loop-made.auto.made-end (up_to _ _ c.requires.below)) (same _) c.requires.below
 
-pub step_is_determined-requires : goal.step_is_determined-requires
-step_is_determined-requires g c = assumption
-
-pub step_line-requires : goal.step_line-requires
-step_line-requires g c = assumption
-
 pub returns-in-Err-clause-kept : goal.returns-in-Err-clause-kept
 returns-in-Err-clause-kept g c start begun =
     cache.one_tried c.loop-made.made start (calculator_of c.loop-made.self) (calculator_of c.step_line.new.self) c.in-Err.refusal

@@ -14,6 +14,3 @@ pub returns-in_default : goal.returns-in_default
 returns-in_default g c =
     line_place _ _ _ _ (ap (λ (s : LabelledBench). s.state.calculator) c.self.view_is) c.mode.ensures c.in_default.not-Micro
     (ap (λ (f : LabelledFocal). f.state.position) c.behind-self.view_is ∙ ap (λ (f : FocalState). f.position) c.focal.ensures.state)
-
-pub pc-requires : goal.pc-requires
-pc-requires g c = assumption

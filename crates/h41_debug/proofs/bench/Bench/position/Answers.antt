@@ -45,12 +45,3 @@ returns g c =
     c.push_str-3.ensures.bytes c.mode_name.ensures.text
     (c.mode.ensures ∙ ap (λ (s : CalculatorState). s.mode) c.calculator.ensures.state)
     (c.as_str.ensures.value ∙ c.location_digits.ensures) c.location.ensures
-
-pub location-requires : goal.location-requires
-location-requires g c = assumption
-
-pub location_digits-requires : goal.location_digits-requires
-location_digits-requires g c = assumption
-
-pub mode_name-requires : goal.mode_name-requires
-mode_name-requires g c = assumption

@@ -10,8 +10,5 @@ advance-requires g c = (search rules, some _ c.if-limit-eq0.false)
 pub returns-clause-run : goal.returns-clause-run
 returns-clause-run g c = c.advance.ensures.run (search rules)
 
-pub eq-requires : goal.eq-requires
-eq-requires g c = assumption
-
 pub returns-clause-kept : goal.returns-clause-kept
 returns-clause-kept g c = c.advance.ensures.kept

@@ -1,9 +1,8 @@
 use Rattle.std.proofs.Common.{ap, subst}
 use Rattle.std.specs.Prelude.{OnOk}
 use Rattle.std.specs.Result.{result_err}
-use Rattle.h41_xrom.specs.Calculator.{CalculatorState, RefusesLine, StepsByLine}
+use Rattle.h41_xrom.specs.Calculator.{CalculatorState, RefusesLine, StepsByLine, machine_of}
 use Rattle.h41_debug.specs.LabelledBench.{LabelledBench, calculator_of}
-use Rattle.h41_xrom.specs.Calculator.{machine_of}
 use Rattle.h41_xrom.specs.KeptLabels.{KeepsAfterLine}
 use Rattle.h41_xrom.specs.LabelledCalculator.{LabelledCalculator}
 use Rattle.h41_focal.specs.OutsideCalls.{Program}

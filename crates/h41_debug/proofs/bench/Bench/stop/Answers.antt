@@ -12,6 +12,3 @@ pub returns-in_default : goal.returns-in_default
 returns-in_default g c =
     running_stops _ c.args.self.now.state c.mode.result c.if-not-stepped.false
     (c.mode.ensures ∙ ap (λ (s : CalculatorState). s.mode) c.calculator.ensures.state) c.in_default.not-Idle _ c.stop_at_breakpoint.ensures
-
-pub stop_at_breakpoint-requires : goal.stop_at_breakpoint-requires
-stop_at_breakpoint-requires g c = assumption

@@ -16,9 +16,3 @@ returns-then-has_breakpoint g c =
 pub returns : goal.returns
 returns g c =
     goes_past c.args.self.now.state (rw c.location.ensures at (sym c.has_breakpoint.ensures ∙ c.if-has_breakpoint.false))
-
-pub has_breakpoint-requires : goal.has_breakpoint-requires
-has_breakpoint-requires g c = assumption
-
-pub location-requires : goal.location-requires
-location-requires g c = assumption

@@ -130,12 +130,6 @@ returns-clause-steps g c =
     all_steps _ _ _ _ _ _ c.loop-made.invariant.0 c.loop-made.invariant.3 c.loop-made-test.false c.loop-made.invariant.5
     (same _) c.requires.below
 
-pub has_breakpoint-requires : goal.has_breakpoint-requires
-has_breakpoint-requires g c = assumption
-
-pub step_is_determined-requires : goal.step_is_determined-requires
-step_is_determined-requires g c = assumption
-
 pub returns-in-Ok-false-clause-kept : goal.returns-in-Ok-false-clause-kept
 returns-in-Ok-false-clause-kept g c start begun =
     cache.one_more c.loop-word.word start (calculator_of c.loop-word.self) (calculator_of c.step_word.new.self)

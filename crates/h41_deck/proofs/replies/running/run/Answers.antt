@@ -15,15 +15,3 @@ returns-in_err-write_whole-clause-text g c =
     c.run-made.ensures.run
     (subst (λ (of : List ℕ). AppendsPart (g.W.Sink.contents c.args.writer.now) (g.W.Sink.contents c.write_whole.new.writer) of)
     text c.in_err-write_whole.ensures.written))
-
-pub as_bytes-requires : goal.as_bytes-requires
-as_bytes-requires g c = assumption
-
-pub ran_text-requires : goal.ran_text-requires
-ran_text-requires g c = assumption
-
-pub stop_refusal-requires : goal.stop_refusal-requires
-stop_refusal-requires g c = assumption
-
-pub write_whole-requires : goal.write_whole-requires
-write_whole-requires g c = assumption

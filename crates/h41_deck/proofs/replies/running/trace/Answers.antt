@@ -65,18 +65,3 @@ pub returns-clause-text : goal.returns-clause-text
 returns-clause-text g c = λ values.
     traces_end c.args.count (c.args.count - c.loop-made.made) values c.args.bench.now.state
     c.loop-made.bench.state _ _ (omega arith) c.loop-made.invariant.on
-
-pub as_bytes-requires : goal.as_bytes-requires
-as_bytes-requires g c = assumption
-
-pub step-requires : goal.step-requires
-step-requires g c = assumption
-
-pub steps-requires : goal.steps-requires
-steps-requires g c = assumption
-
-pub steps_are_traced-requires : goal.steps_are_traced-requires
-steps_are_traced-requires g c = assumption
-
-pub write_whole-requires : goal.write_whole-requires
-write_whole-requires g c = assumption

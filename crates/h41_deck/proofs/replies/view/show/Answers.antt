@@ -9,9 +9,8 @@ use Rattle.h41_deck.proofs.ShortLines.{position_part, position_said}
 use Rattle.h41_deck.proofs.replies.view.show.Goals as goal
 use Rattle.h41_deck.proofs.replies.view.show.Goals.{in-Cpu+in_ok-text-in-Cpu, in-Register+in_ok-text-in-Register}
 use Rattle.h41_deck.proofs.replies.view.show.Goals.{in-Stack+in_ok-text-in-Stack, in-Flags+in_ok-text-in-Flags}
-use Rattle.h41_deck.proofs.replies.view.show.Goals.{in-Alpha+in_ok-text-in-Alpha}
-use Rattle.h41_deck.proofs.replies.view.show.Goals.{in-Display+in_ok-text-in-Display, in-Lines+in_ok-text-in-Lines}
-use Rattle.h41_deck.proofs.replies.view.show.Goals.{in-Functions+in_ok-text-in-Functions}
+use Rattle.h41_deck.proofs.replies.view.show.Goals.{in-Alpha+in_ok-text-in-Alpha, in-Display+in_ok-text-in-Display}
+use Rattle.h41_deck.proofs.replies.view.show.Goals.{in-Lines+in_ok-text-in-Lines, in-Functions+in_ok-text-in-Functions}
 
 pub returns-in-Position-clause-text : goal.returns-in-Position-clause-text
 returns-in-Position-clause-text g c =

@@ -49,12 +49,3 @@ pub returns-in-Err-clause-kept : goal.returns-in-Err-clause-kept
 returns-in-Err-clause-kept g c =
     action_kept _ _ c.args.action c.args.input _ c.args.self.now (cache_of c.act.new.machine) _ c.self.view_is
     (c.in_ok-check_memory.ensures) (ap is_ok c.in-Err.is) refl c.act.ensures.kept
-
-pub check_memory-requires : goal.check_memory-requires
-check_memory-requires g c = assumption
-
-pub end_line-requires : goal.end_line-requires
-end_line-requires g c = assumption
-
-pub tell-requires : goal.tell-requires
-tell-requires g c = assumption

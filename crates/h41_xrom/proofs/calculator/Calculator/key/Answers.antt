@@ -36,12 +36,3 @@ pub returns-in-Err-clause-kept : goal.returns-in-Err-clause-kept
 returns-in-Err-clause-kept g c =
     unknown_kept false _ c.args.self.now c.args.key c.waits.result c.key_flags.result c.self.view_is
     c.waits.ensures c.key_flags.ensures (c.in-Err.ensures).refused
-
-pub key_flags-requires : goal.key_flags-requires
-key_flags-requires g c = assumption
-
-pub press-requires : goal.press-requires
-press-requires g c = assumption
-
-pub waits-requires : goal.waits-requires
-waits-requires g c = assumption

@@ -45,12 +45,3 @@ invariant_of-self-2 g c =
     right_with c.kept_answers_stay_right.ensures.keeping c.self.inside.machine _ c.load.new.ram c.halt_at.new.self.labels
     (ap (λ (inside : Inside g.row.REGS). inside.machine) c.self-inside.view_is) c.load.ensures.mark c.halt_at.ensures.labels
     c.self.invariant
-
-pub check_change-requires : goal.check_change-requires
-check_change-requires g c = assumption
-
-pub halt_at-requires : goal.halt_at-requires
-halt_at-requires g c = assumption
-
-pub kept_answers_stay_right-requires : goal.kept_answers_stay_right-requires
-kept_answers_stay_right-requires g c = assumption

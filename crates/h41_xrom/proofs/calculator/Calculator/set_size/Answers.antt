@@ -35,12 +35,3 @@ pub invariant_of-self : goal.invariant_of-self
 invariant_of-self g c =
     right_over c.kept_answers_stay_right.ensures.keeping c.self.inside.machine _ c.set_size.new.ram
     (ap (λ (inside : Inside g.row.REGS). inside.machine) c.self-inside.view_is) c.set_size.ensures.mark c.self.invariant
-
-pub check_change-requires : goal.check_change-requires
-check_change-requires g c = assumption
-
-pub end_entry-requires : goal.end_entry-requires
-end_entry-requires g c = assumption
-
-pub kept_answers_stay_right-requires : goal.kept_answers_stay_right-requires
-kept_answers_stay_right-requires g c = assumption

@@ -23,6 +23,3 @@ shows s input pages machine text is on own same shown =
 pub returns-then-input : goal.returns-then-input
 returns-then-input g c =
     shows c.args.self.now.state _ _ _ _ c.input-input.ensures c.if-input.true c.pages.ensures c.machine.ensures.machine c.shown_line.ensures
-
-pub pages-requires : goal.pages-requires
-pages-requires g c = assumption

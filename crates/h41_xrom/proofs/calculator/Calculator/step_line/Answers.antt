@@ -30,9 +30,3 @@ returns-in-Err-clause-refusal g c =
 pub returns-in-Err-clause-kept : goal.returns-in-Err-clause-kept
 returns-in-Err-clause-kept g c =
     line_kept _ c.args.self.now _ (cache_of c.step.new.self) c.self.view_is refl ((c.in-Err.ensures).kept, (c.in-Err.ensures).clear)
-
-pub end_entry-requires : goal.end_entry-requires
-end_entry-requires g c = assumption
-
-pub end_line-requires : goal.end_line-requires
-end_line-requires g c = assumption

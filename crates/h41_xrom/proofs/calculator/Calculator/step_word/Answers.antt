@@ -14,6 +14,3 @@ pub invariant_of-self-else-ends : goal.invariant_of-self-else-ends
 invariant_of-self-else-ends g c =
     right_over c.kept_answers_stay_right.ensures.keeping c.self.inside.machine _ c.step_to_end.new.ram
     (ap (λ (inside : Inside g.row.REGS). inside.machine) c.self-inside.view_is) c.step_to_end.ensures.mark c.self.invariant
-
-pub kept_answers_stay_right-requires : goal.kept_answers_stay_right-requires
-kept_answers_stay_right-requires g c = assumption

@@ -1,4 +1,0 @@
-use Rattle.h41_debug.proofs.bench.Bench.breakpoint_count.Goals as goal
-
-pub count-requires : goal.count-requires
-count-requires g c = assumption

@@ -1,5 +1,5 @@
 -- A line that calls nothing outside program memory leaves what it leaves by itself.
-use Rattle.std.proofs.Common.{◌≡◌, Bool, true, false, Ok, Err, Result, refl, IfOk}
+use Rattle.std.proofs.Common.{◌≡◌, Bool, true, false, Ok, Err, Result, refl}
 use Rattle.std.specs.Prelude.{MatchBool}
 use Rattle.h41_codes.specs.declared.line.Line.{Line}
 use Rattle.h41_focal.specs.Destinations.{Manner, Stepped, Typed}

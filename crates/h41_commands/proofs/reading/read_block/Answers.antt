@@ -158,9 +158,3 @@ pub returns-in_err-block-clause-write_fault : goal.returns-in_err-block-clause-w
 returns-in_err-block-clause-write_fault g c =
     λ is. c.in_err-block.ensures.write_fault
     (told c.from_residual.result c.in_err-block.field-0.0 faults.WriteFault c.from_residual.ensures.1 is)
-
-pub line-requires : goal.line-requires
-line-requires g c = assumption
-
-pub read_lines-requires : goal.read_lines-requires
-read_lines-requires g c = assumption

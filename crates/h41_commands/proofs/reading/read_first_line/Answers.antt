@@ -191,12 +191,3 @@ pub returns-clause-counted : goal.returns-clause-counted
 returns-clause-counted g c =
     counts_both c.args.input.now c.loop-input.input c.next_line.new.self _ _ _ c.loop-input.invariant.counted
     c.in_ok-next_line.ensures.counted
-
-pub first_line-requires : goal.first_line-requires
-first_line-requires g c = assumption
-
-pub line-requires : goal.line-requires
-line-requires g c = assumption
-
-pub next_line-requires : goal.next_line-requires
-next_line-requires g c = assumption

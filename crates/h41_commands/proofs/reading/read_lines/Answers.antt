@@ -224,12 +224,3 @@ pub returns-in_err-next_line-clause-write_fault : goal.returns-in_err-next_line-
 returns-in_err-next_line-clause-write_fault g c =
     λ is. c.in_err-next_line.ensures.write_fault
     (told_of_line c.from_residual.result c.in_err-next_line.field-0.0 line.WriteFault c.from_residual.ensures.1 is)
-
-pub is_end-requires : goal.is_end-requires
-is_end-requires g c = assumption
-
-pub line-requires : goal.line-requires
-line-requires g c = assumption
-
-pub next_line-requires : goal.next_line-requires
-next_line-requires g c = assumption

@@ -31,9 +31,3 @@ returns-then-count-eq0-clause-mark g c = λ is. absurd (no_fault _ _ is)
 
 pub returns-then-count-eq0-clause-clear : goal.returns-then-count-eq0-clause-clear
 returns-then-count-eq0-clause-clear g c = λ other. c.in-Ok.ensures.mark ∙ ap (λ failed. failed || false) c.loop-count.invariant.1
-
-pub min-requires : goal.min-requires
-min-requires g c = assumption
-
-pub read-requires : goal.read-requires
-read-requires g c = assumption

@@ -9,6 +9,3 @@ loop-written-preserved g c =
       search rules,
       appends-front _ _ _ c.args.bytes.now c.loop-written.written c.in-Ok.count c.loop-written.invariant.2 c.in-Ok.ensures.bytes,
     )
-
-pub write-requires : goal.write-requires
-write-requires g c = assumption

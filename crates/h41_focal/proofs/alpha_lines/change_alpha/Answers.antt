@@ -29,6 +29,3 @@ returns-in-Mode-clause-done g c = λ named.
     (row_done _ (row_of_work (works.Alpha (alphas.Mode c.in-Mode.on))) named _ _ _
     zeros outcomes.Done _ _ (ap machine_of c.machine.view_is) refl refl refl
     (ap (λ (ram : RamState). ram.registers) c.set_flag.ensures.written) c.go_on_lifting-in-Mode.ensures.state)
-
-pub go_on_lifting-requires : goal.go_on_lifting-requires
-go_on_lifting-requires g c = assumption

@@ -14,9 +14,3 @@ returns-in-Ok-clause-done g c = λ named.
     (ap machine_of c.machine.view_is) refl
     (let worked = c.compute_of_one.ensures named X refl in rw c.in-Ok.is at worked) refl
     (ap (λ (ram : RamState). ram.registers) c.set_status_register.ensures.written) c.go_on_lifting.ensures.state
-
-pub fail-requires : goal.fail-requires
-fail-requires g c = assumption
-
-pub go_on_lifting-requires : goal.go_on_lifting-requires
-go_on_lifting-requires g c = assumption

@@ -24,9 +24,3 @@ returns-in-Err-clause-done g c = λ named.
     (value_computed _ named (row_of_work (works.OfX c.args.value))
     (OfOne c.args.value X) _ refl refl (c.in-Err.ensures named X refl))
     c.fail.ensures.done
-
-pub fail-requires : goal.fail-requires
-fail-requires g c = assumption
-
-pub go_on_lifting-requires : goal.go_on_lifting-requires
-go_on_lifting-requires g c = assumption

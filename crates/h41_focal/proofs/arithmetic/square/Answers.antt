@@ -19,9 +19,3 @@ pub returns-in-Err-clause-done : goal.returns-in-Err-clause-done
 returns-in-Err-clause-done g c = λ named.
     row_failed _ (row_of_work works.Square) named _ _ _ _ c.in-Err.fault _ (ap machine_of c.machine.view_is)
     (c.in-Err.ensures c.machine.inside.ram.registers named X X refl refl refl) c.fail.ensures.done
-
-pub fail-requires : goal.fail-requires
-fail-requires g c = assumption
-
-pub go_on_lifting-requires : goal.go_on_lifting-requires
-go_on_lifting-requires g c = assumption

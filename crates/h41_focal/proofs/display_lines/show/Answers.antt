@@ -42,9 +42,3 @@ returns-in-TurnOff-clause-done g c = λ named.
     (row_done _ (row_of_work (works.Display displays.TurnOff)) named _ _ _ zeros
     outcomes.TurnedOff _ _ (ap machine_of c.machine.view_is) refl refl refl
     refl c.go_on_lifting-in-TurnOff.ensures.state)
-
-pub go_on-requires : goal.go_on-requires
-go_on-requires g c = assumption
-
-pub go_on_lifting-requires : goal.go_on_lifting-requires
-go_on_lifting-requires g c = assumption

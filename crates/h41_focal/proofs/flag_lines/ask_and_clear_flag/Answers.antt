@@ -39,12 +39,3 @@ returns-clause-keeps g c =
           left_flag c.machine.inside.ram c.args.machine.now (ap (λ (machine : LabelledMachine). machine.ram) c.machine.view_is)
           c.set_flag.new.self (ap (λ (ram : RamState). ram.touched) c.set_flag.ensures.written);
     }
-
-pub answer-requires : goal.answer-requires
-answer-requires g c = assumption
-
-pub from-requires : goal.from-requires
-from-requires g c = assumption
-
-pub go_on_lifting-requires : goal.go_on_lifting-requires
-go_on_lifting-requires g c = assumption

@@ -25,9 +25,3 @@ returns-clause-carried g c = λ named.
     (test_leads c.args.pages.now _ c.in_ok-lead.lead (flag_use_row (flags.Ask c.args.on) c.args.flag) (Flag c.args.flag c.args.on)
     c.agrees_with-holds.result named _ zeros c.answer.result refl refl refl refl c.agrees_with-holds.ensures c.in_ok-lead.ensures
     c.answer.ensures))
-
-pub answer-requires : goal.answer-requires
-answer-requires g c = assumption
-
-pub go_on_lifting-requires : goal.go_on_lifting-requires
-go_on_lifting-requires g c = assumption

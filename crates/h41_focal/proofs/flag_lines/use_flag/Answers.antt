@@ -21,15 +21,3 @@ returns-in-Ask-clause-carried g c = λ named. rw c.in-Ask.is (c.ask_flag.ensures
 
 pub returns-in-AskAndClear-clause-carried : goal.returns-in-AskAndClear-clause-carried
 returns-in-AskAndClear-clause-carried g c = λ named. rw c.in-AskAndClear.is (c.ask_and_clear_flag.ensures.carried named)
-
-pub ask_and_clear_flag-requires : goal.ask_and_clear_flag-requires
-ask_and_clear_flag-requires g c = assumption
-
-pub ask_flag-requires : goal.ask_flag-requires
-ask_flag-requires g c = assumption
-
-pub from-requires : goal.from-requires
-from-requires g c = assumption
-
-pub go_on_lifting-requires : goal.go_on_lifting-requires
-go_on_lifting-requires g c = assumption

@@ -53,21 +53,3 @@ returns-in-Some-Return g c =
       unchanged = tt;
       keeps = c.go_back.ensures.keeps;
     }
-
-pub go_back-requires : goal.go_back-requires
-go_back-requires g c = assumption
-
-pub move_stack-requires : goal.move_stack-requires
-move_stack-requires g c = assumption
-
-pub of_x-requires : goal.of_x-requires
-of_x-requires g c = assumption
-
-pub of_y_and_x-requires : goal.of_y_and_x-requires
-of_y_and_x-requires g c = assumption
-
-pub plain-requires : goal.plain-requires
-plain-requires g c = assumption
-
-pub work_of-requires : goal.work_of-requires
-work_of-requires g c = assumption

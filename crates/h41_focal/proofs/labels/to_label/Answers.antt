@@ -73,9 +73,3 @@ returns-in-None-clause-kept g c =
       mark = search rules;
       left = search rules;
     }
-
-pub arrive-requires : goal.arrive-requires
-arrive-requires g c = assumption
-
-pub fail-requires : goal.fail-requires
-fail-requires g c = assumption

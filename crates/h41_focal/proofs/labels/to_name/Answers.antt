@@ -109,14 +109,8 @@ returns-in-None-Execute-clause-kept g c =
       left = search rules;
     }
 
-pub arrive-requires : goal.arrive-requires
-arrive-requires g c = assumption
-
 pub call_named-requires : goal.call_named-requires
 call_named-requires g c = (
   search rules,
   subst (λ (machine : LabelledMachine). IsTrue (is_sound machine.ram.registers)) (sym c.machine.view_is) c.requires.sound,
 )
-
-pub fail-requires : goal.fail-requires
-fail-requires g c = assumption

@@ -109,27 +109,3 @@ returns-in-Text g c =
       unchanged = tt;
       kept = rest_kept _ _ c.text_line.ensures.keeps;
     })
-
-pub be_silent-requires : goal.be_silent-requires
-be_silent-requires g c = assumption
-
-pub carry_short-requires : goal.carry_short-requires
-carry_short-requires g c = assumption
-
-pub do_nothing-requires : goal.do_nothing-requires
-do_nothing-requires g c = assumption
-
-pub go_back-requires : goal.go_back-requires
-go_back-requires g c = assumption
-
-pub named-requires : goal.named-requires
-named-requires g c = assumption
-
-pub number_line-requires : goal.number_line-requires
-number_line-requires g c = assumption
-
-pub text_line-requires : goal.text_line-requires
-text_line-requires g c = assumption
-
-pub written-requires : goal.written-requires
-written-requires g c = assumption

@@ -44,12 +44,3 @@ returns-in-Err-clause-taken g c =
     (ap machine_of c.machine.view_is) (rw c.in-Err.is at found) in
     rw (held, ← meant)
     c.fail.ensures.done)
-
-pub fail-requires : goal.fail-requires
-fail-requires g c = assumption
-
-pub is_parameter_out-requires : goal.is_parameter_out-requires
-is_parameter_out-requires g c = assumption
-
-pub to_target-requires : goal.to_target-requires
-to_target-requires g c = assumption

@@ -10,6 +10,3 @@ returns-in-ExecuteName-clause-taken g c = rw c.in-ExecuteName.is (c.to_name-in-E
 
 pub returns-in-Wordless-clause-taken : goal.returns-in-Wordless-clause-taken
 returns-in-Wordless-clause-taken g c = rw c.in-Wordless.is (Err NotInProfile, refl, refl)
-
-pub to_name-requires : goal.to_name-requires
-to_name-requires g c = assumption

@@ -39,18 +39,3 @@ returns-in-Ok-StoreRegister-clause-taken g c = λ pages.
     rw c.in-Ok-StoreRegister.is-1
     (short_taken pages c.args.origin StoreRegister c.args.register (Ok c.in-Ok-StoreRegister.address) (machine_of c.args.machine.now)
     (machine_of c.store.new.machine) (Ok c.store.result) (sym there) (c.store.ensures.done pages))
-
-pub fail-requires : goal.fail-requires
-fail-requires g c = assumption
-
-pub from-requires : goal.from-requires
-from-requires g c = assumption
-
-pub number-requires : goal.number-requires
-number-requires g c = assumption
-
-pub recall-requires : goal.recall-requires
-recall-requires g c = assumption
-
-pub store-requires : goal.store-requires
-store-requires g c = assumption

@@ -36,9 +36,3 @@ returns-in-Err-clause-carried g c =
     let works = loop_works Down _ c.args.address _ (c.loop_down.ensures.register c.args.address Named refl) in
     row_failed _ (loop Down) c.args.address _ _ _ _ c.in-Err.fault c.fail.result (ap machine_of c.machine.view_is)
     (rw c.in-Err.is at works) c.fail.ensures.done c.args.pages.now
-
-pub fail-requires : goal.fail-requires
-fail-requires g c = assumption
-
-pub go_on_lifting-requires : goal.go_on_lifting-requires
-go_on_lifting-requires g c = assumption

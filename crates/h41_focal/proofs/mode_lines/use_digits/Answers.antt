@@ -20,6 +20,3 @@ returns-in-Tone-clause-done g c = λ named.
     (row_done _ (digits_use_row digits.Tone c.args.digits) named _ _ _ zeros
     outcomes.Done _ _ (ap machine_of c.machine.view_is) refl refl refl
     refl c.go_on_lifting-in-Tone.ensures.state)
-
-pub go_on_lifting-requires : goal.go_on_lifting-requires
-go_on_lifting-requires g c = assumption

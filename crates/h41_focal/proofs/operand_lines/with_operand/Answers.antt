@@ -58,9 +58,3 @@ returns-in-Label g c =
       unchanged = tt;
       keeps = c.be_silent.ensures.keeps;
     }
-
-pub be_silent-requires : goal.be_silent-requires
-be_silent-requires g c = assumption
-
-pub is_left_out-requires : goal.is_left_out-requires
-is_left_out-requires g c = assumption

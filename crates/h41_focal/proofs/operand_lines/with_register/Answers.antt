@@ -21,9 +21,3 @@ returns-in-Ok-clause-keeps g c =
           c.machine.view_is (rw c.in-Ok.is at meant)))
           sound;
     }
-
-pub fail-requires : goal.fail-requires
-fail-requires g c = assumption
-
-pub use_register-requires : goal.use_register-requires
-use_register-requires g c = assumption

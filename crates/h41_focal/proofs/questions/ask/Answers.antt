@@ -31,12 +31,3 @@ pub returns-in-Err-clause-carried : goal.returns-in-Err-clause-carried
 returns-in-Err-clause-carried g c = λ named.
     row_failed _ (test (condition_of c.args.test)) named _ _ _ _ c.in-Err.fault c.fail.result (ap machine_of c.machine.view_is)
     (test_faulted _ named (condition_of c.args.test) _ c.in-Err.fault c.asks.ensures c.in-Err.is) c.fail.ensures.done c.args.pages.now
-
-pub answer-requires : goal.answer-requires
-answer-requires g c = assumption
-
-pub fail-requires : goal.fail-requires
-fail-requires g c = assumption
-
-pub go_on_lifting-requires : goal.go_on_lifting-requires
-go_on_lifting-requires g c = assumption

@@ -28,9 +28,3 @@ returns-in-Err-clause-done g c =
     value_computed _ c.args.address (register_use_row (registers.Combine c.args.value)) (OfTwo c.args.value Named X) _ refl refl
     (rw c.in-Err.is at worked))
     c.fail.ensures.done
-
-pub fail-requires : goal.fail-requires
-fail-requires g c = assumption
-
-pub go_on_lifting-requires : goal.go_on_lifting-requires
-go_on_lifting-requires g c = assumption

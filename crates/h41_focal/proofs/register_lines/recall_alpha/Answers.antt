@@ -12,6 +12,3 @@ returns-clause-done g c =
     row_done _ (register_use_row registers.RecallAlpha) c.args.address _ _ _
     zeros outcomes.Done _ _ (ap machine_of c.machine.view_is) refl refl refl
     c.append_register.ensures.change c.go_on_lifting.ensures.state
-
-pub go_on_lifting-requires : goal.go_on_lifting-requires
-go_on_lifting-requires g c = assumption

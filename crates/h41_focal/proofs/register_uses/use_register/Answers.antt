@@ -72,30 +72,3 @@ returns-in-Exchange g c =
       unchanged = tt;
       keeps = c.exchange_x.ensures.keeps;
     }
-
-pub combine-requires : goal.combine-requires
-combine-requires g c = assumption
-
-pub count_down-requires : goal.count_down-requires
-count_down-requires g c = assumption
-
-pub count_up-requires : goal.count_up-requires
-count_up-requires g c = assumption
-
-pub exchange_x-requires : goal.exchange_x-requires
-exchange_x-requires g c = assumption
-
-pub recall-requires : goal.recall-requires
-recall-requires g c = assumption
-
-pub recall_alpha-requires : goal.recall_alpha-requires
-recall_alpha-requires g c = assumption
-
-pub store-requires : goal.store-requires
-store-requires g c = assumption
-
-pub store_alpha-requires : goal.store_alpha-requires
-store_alpha-requires g c = assumption
-
-pub view-requires : goal.view-requires
-view-requires g c = assumption

@@ -102,27 +102,3 @@ returns-in-BranchTo g c =
       unchanged = tt;
       kept = c.to_label-in-BranchTo.ensures.kept;
     })
-
-pub be_silent-requires : goal.be_silent-requires
-be_silent-requires g c = assumption
-
-pub call_module-requires : goal.call_module-requires
-call_module-requires g c = assumption
-
-pub indirect-requires : goal.indirect-requires
-indirect-requires g c = assumption
-
-pub number-requires : goal.number-requires
-number-requires g c = assumption
-
-pub plain_at_once-requires : goal.plain_at_once-requires
-plain_at_once-requires g c = assumption
-
-pub short-requires : goal.short-requires
-short-requires g c = assumption
-
-pub to_label-requires : goal.to_label-requires
-to_label-requires g c = assumption
-
-pub with_operand-requires : goal.with_operand-requires
-with_operand-requires g c = assumption

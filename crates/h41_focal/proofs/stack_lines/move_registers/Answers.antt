@@ -33,33 +33,3 @@ returns-in-ClearX-clause-change g c =
       c.zero-in-ClearX.ensures _ named,
       (ap (λ (ram : RamState). ram.registers) c.set_status_register.ensures.written),
     )
-
-pub bring_in-requires : goal.bring_in-requires
-bring_in-requires g c = assumption
-
-pub bring_in_from-requires : goal.bring_in_from-requires
-bring_in_from-requires g c = assumption
-
-pub clear_stack-requires : goal.clear_stack-requires
-clear_stack-requires g c = assumption
-
-pub enter-requires : goal.enter-requires
-enter-requires g c = assumption
-
-pub exchange-requires : goal.exchange-requires
-exchange-requires g c = assumption
-
-pub pi-requires : goal.pi-requires
-pi-requires g c = assumption
-
-pub roll_down-requires : goal.roll_down-requires
-roll_down-requires g c = assumption
-
-pub roll_up-requires : goal.roll_up-requires
-roll_up-requires g c = assumption
-
-pub set_status_register-requires : goal.set_status_register-requires
-set_status_register-requires g c = assumption
-
-pub zero-requires : goal.zero-requires
-zero-requires g c = assumption

@@ -169,9 +169,3 @@ loop-end-init g c = record {
   counted = λ first counted. counted;
   heard = hears_still AreNone _ _ c.args.self.now c.args.self.now [] (nothing_read c.args.self.now) (λ end. end);
 }
-
-pub held-requires : goal.held-requires
-held-requires g c = assumption
-
-pub line_end-requires : goal.line_end-requires
-line_end-requires g c = assumption

@@ -202,12 +202,3 @@ returns-in_err-flush_rest-clause-heard g c =
 pub returns-then-self-clause-heard : goal.returns-then-self-clause-heard
 returns-then-self-clause-heard g c =
     hears_still AreNone _ _ c.args.self.now c.args.self.now [] (nothing_read c.args.self.now) (λ end. end)
-
-pub flush_rest-requires : goal.flush_rest-requires
-flush_rest-requires g c = assumption
-
-pub read_after-requires : goal.read_after-requires
-read_after-requires g c = assumption
-
-pub shorten-requires : goal.shorten-requires
-shorten-requires g c = assumption

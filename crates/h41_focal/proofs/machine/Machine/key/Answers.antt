@@ -4,9 +4,3 @@ pub returns-clause-right : goal.returns-clause-right
 returns-clause-right g c =
     c.kept_answers_stay_right.ensures.searching c.begin.new.self c.carry_out.new.machine _ c.begin.ensures.right
     c.carry_out.ensures.kept.asks c.carry_out.ensures.kept.mark
-
-pub begin-requires : goal.begin-requires
-begin-requires g c = assumption
-
-pub kept_answers_stay_right-requires : goal.kept_answers_stay_right-requires
-kept_answers_stay_right-requires g c = assumption

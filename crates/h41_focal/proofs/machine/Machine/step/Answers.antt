@@ -14,12 +14,3 @@ returns-in-Some-clause-right g c =
 pub returns-in-Some-clause-kept : goal.returns-in-Some-clause-kept
 returns-in-Some-clause-kept g c =
     (Ok (line_of c.in-Some.line, c.in-Some.next), c.in-Some.ensures.some, rw c.in-Some.ensures.clear c.carry_short.ensures.kept.asks)
-
-pub kept_answers_stay_right-requires : goal.kept_answers_stay_right-requires
-kept_answers_stay_right-requires g c = assumption
-
-pub short_standing-requires : goal.short_standing-requires
-short_standing-requires g c = assumption
-
-pub step_long-requires : goal.step_long-requires
-step_long-requires g c = assumption

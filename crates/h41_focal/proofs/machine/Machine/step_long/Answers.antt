@@ -76,12 +76,3 @@ returns g c =
           c.kept_answers_stay_right.ensures.searching c.begin-2.new.self c.carry_out.new.machine _ c.begin-2.ensures.right
           c.carry_out.ensures.kept.asks c.carry_out.ensures.kept.mark;
     }
-
-pub begin-requires : goal.begin-requires
-begin-requires g c = assumption
-
-pub kept_answers_stay_right-requires : goal.kept_answers_stay_right-requires
-kept_answers_stay_right-requires g c = assumption
-
-pub standing-requires : goal.standing-requires
-standing-requires g c = assumption

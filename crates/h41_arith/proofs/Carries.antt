@@ -1,7 +1,6 @@
 -- The carries of the digit rule: they are determined from below, and go on by one place.
 use Rattle.std.proofs.Common.{◌≡◌, ℕ, zero, suc, ◌+◌, ◌-◌, ◌<◌, ◌≤◌, Bool, true, false, List, [], ◌∷◌, ◌++◌, length, slice_index, refl, ap}
-use Rattle.std.proofs.Common.{arith, inl, inr, sym, subst, ◌∙◌}
-use Rattle.std.proofs.Common.{replicate, set, length-append, get_or-set_other, get_or-set_same, ◌≢◌}
+use Rattle.std.proofs.Common.{arith, inl, inr, sym, subst, ◌∙◌, replicate, set, length-append, get_or-set_other, get_or-set_same, ◌≢◌}
 use Rattle.std.proofs.lemmas.List.{length-replicate, get_or_append_left, ext_get_or}
 use Rattle.std.proofs.lemmas.Bool.{cases_lt}
 use Rattle.std.proofs.Math.Seq.{get_or-append_seam}

@@ -18,8 +18,7 @@ use Rattle.h41_asm.specs.declared.table.Opening.TheVariants.{Data, Fetch, GoTo, 
 use Rattle.h41_asm.specs.declared.table.Numbered.TheVariants as numbers
 use Rattle.h41_asm.specs.private.CodeStatements.{takes_numbered}
 use Rattle.h41_asm.specs.Statements.{Statement, Taking, Words, words_behind, is_begun, one_word, reading_of, single_among, singles}
-use Rattle.h41_asm.specs.Statements.{statement_by}
-use Rattle.h41_asm.specs.Statements.{taken_among, takers, takes_address}
+use Rattle.h41_asm.specs.Statements.{statement_by, taken_among, takers, takes_address}
 use Rattle.h41_asm.specs.private.Openings.{OpensAs, without_operand, at_carry, pair}
 
 -- The meaning of words by the mnemonic without operand that they are, by the mnemonic with which they begin, and by whether they begin with

@@ -9,8 +9,7 @@ use Rattle.std.proofs.lemmas.Bool.{cases_Bool}
 use Rattle.std.proofs.lemmas.List.Sums.{sum_by_push}
 use Rattle.h41_asm.specs.declared.fault.SourceFault.{SourceFault}
 use Rattle.h41_asm.specs.Faults.{FaultOnLine, NumberedSourceLine, at_line, first_fault, has_label, is_labelled_twice, label_address}
-use Rattle.h41_asm.specs.Faults.{line_length}
-use Rattle.h41_asm.specs.Faults.{line_at_place, numbered_lines, own_fault, own_fault_at, read_fault, reference_fault_at}
+use Rattle.h41_asm.specs.Faults.{line_length, line_at_place, numbered_lines, own_fault, own_fault_at, read_fault, reference_fault_at}
 use Rattle.h41_asm.specs.Placing.{Labels}
 use Rattle.h41_asm.specs.SourceLines.{SourceLine}
 use Rattle.h41_asm.specs.Statements.{reading_of}

@@ -4,8 +4,7 @@
 -- NAME, ENTRY and FOCAL and the errors are its own, too.
 use Rattle.std.specs.Prelude.{ℕ, ◌+◌, ◌/◌, ◌%◌, ℤ, Bool, ◌&&◌, List, [], ◌∷◌, ◌++◌, length, drop}
 use Rattle.std.specs.Prelude.{map, filter, find, reverse, ◌==◌, is_none, if◌then◌else◌, Option}
-use Rattle.std.specs.Prelude.{Some, None, option_map, Result, Ok, Err, bytes_eq, codes}
-use Rattle.std.specs.Prelude.{int_le}
+use Rattle.std.specs.Prelude.{Some, None, option_map, Result, Ok, Err, bytes_eq, codes, int_le}
 use Rattle.std.specs.List.{list_any, starts_with}
 use Rattle.std.specs.Option.{ok_or}
 use Rattle.h41_words.specs.declared.operation.Operation.{Operation}

@@ -3,8 +3,7 @@ use Rattle.std.proofs.Common.{◌≡◌, ℕ, ◌/◌, ◌≤◌, List, [], ◌�
 use Rattle.h41_codes.specs.declared.functions.ParameterFunction.{ParameterFunction}
 use Rattle.h41_codes.specs.declared.functions.ParameterFunction.TheVariants.{Recall}
 use Rattle.h41_codes.specs.declared.line.Line.{Line}
-use Rattle.h41_codes.specs.declared.line.Line.TheVariants.{Null, LocalLabel, Number, Named, Register, Plain, WithOperand}
-use Rattle.h41_codes.specs.declared.line.Line.TheVariants.{BranchTo}
+use Rattle.h41_codes.specs.declared.line.Line.TheVariants.{Null, LocalLabel, Number, Named, Register, Plain, WithOperand, BranchTo}
 use Rattle.h41_codes.specs.Codes.{parameter_function_code}
 use Rattle.h41_codes.specs.ByteGrammar.{spelling, IsLine, GoesOn}
 use Rattle.h41_codes.specs.ByteLaws.{IsNumber, NumberBegins, NullBegins}

@@ -3,8 +3,7 @@ use Rattle.std.proofs.Common.{◌≤◌, length, arith}
 use Rattle.h41_codes.specs.Codes.{character_code}
 use Rattle.h41_codes.specs.ByteGrammar.{spelling, IsLine}
 use Rattle.h41_codes.specs.declared.line.Line.{Line}
-use Rattle.h41_codes.specs.declared.line.Line.TheVariants.{Number, Named}
-use Rattle.h41_codes.specs.declared.line.Line.TheVariants.{GlobalLabel, Text}
+use Rattle.h41_codes.specs.declared.line.Line.TheVariants.{Number, Named, GlobalLabel, Text}
 use Rattle.std.proofs.lemmas.List.{length-map}
 
 pub spelling_least : (line : Line) → IsLine line → 1 ≤ length (spelling line)

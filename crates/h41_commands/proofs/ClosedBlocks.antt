@@ -7,9 +7,8 @@ use Rattle.std.specs.Str.Parse.{digits_value}
 use Rattle.h41_lines.specs.Numbers.{is_hexadecimal}
 use Rattle.h41_pages.specs.Addresses.{last_word, page_size}
 use Rattle.h41_pages.specs.Images.{is_image_bytes, words_in}
-use Rattle.h41_commands.specs.Blocks.{block_words, image_content, line_bytes, said_by, said_lines}
+use Rattle.h41_commands.specs.Blocks.{block_words, image_content, line_bytes, said_by, said_lines, short_lines, unless_long, whole_said}
 use Rattle.h41_commands.specs.private.TakenBlocks.{HasTaken, TakenBlock, judgement}
-use Rattle.h41_commands.specs.Blocks.{short_lines, unless_long, whole_said}
 use Rattle.h41_commands.specs.Items.{is_open, with_values}
 use Rattle.h41_commands.specs.declared.commands.BlockKind.{BlockKind}
 use Rattle.h41_commands.specs.declared.commands.BlockKind.TheVariants.{Page, Program}

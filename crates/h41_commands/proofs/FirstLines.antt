@@ -9,8 +9,7 @@ use Rattle.h41_ends.specs.declared.input_lines.InputLines.{InputLines}
 use Rattle.h41_ends.proofs.InputReading.{reads_both}
 use Rattle.h41_commands.specs.private.BlockReading.{ReadsBlock}
 use Rattle.h41_commands.specs.Blocks.{block_values}
-use Rattle.h41_commands.specs.Commands.{and_then, command_of, is_opening, kind_of, kind_of_word, opening_command, plain_of_word}
-use Rattle.h41_commands.specs.Commands.{read_plain}
+use Rattle.h41_commands.specs.Commands.{and_then, command_of, is_opening, kind_of, kind_of_word, opening_command, plain_of_word, read_plain}
 use Rattle.h41_commands.specs.DeckLines.{is_long, is_skipped, longest_line}
 use Rattle.h41_commands.specs.private.Entries.{what_is_spelled}
 use Rattle.h41_commands.specs.Faults.{of_line}

@@ -11,9 +11,8 @@ use Rattle.std.proofs.lemmas.List.Elements.{filter-append}
 use Rattle.std.proofs.lemmas.List.Folds.{list_all-append}
 use Rattle.std.proofs.lemmas.Grind.{flat_map-append}
 use Rattle.h41_pages.specs.Images.{all_fit, image_size, words_in}
-use Rattle.h41_commands.specs.Blocks.{block_bytes, bytes_values, image_content, line_bytes, said_lines}
+use Rattle.h41_commands.specs.Blocks.{block_bytes, bytes_values, image_content, line_bytes, said_lines, whole_said}
 use Rattle.h41_commands.specs.private.TakenBlocks.{kept_bytes, kept_of, most_kept}
-use Rattle.h41_commands.specs.Blocks.{whole_said}
 use Rattle.h41_commands.specs.private.Contents.{KeepsMore, image_in}
 use Rattle.h41_commands.specs.DeckLines.{is_skipped}
 use Rattle.h41_commands.specs.declared.blocks.image_bytes.ImageBytes.{ImageBytes}

@@ -1,12 +1,10 @@
 -- The command of a line is never refused as an open block.
-use Rattle.std.proofs.Common.{◌≡◌, ℕ, Bool, true, false, if◌then◌else◌, List, [], ◌∷◌, Option, Some, None, Result, Ok}
-use Rattle.std.proofs.Common.{Err, bytes_eq}
-use Rattle.std.proofs.Common.{codes, refl}
+use Rattle.std.proofs.Common.{◌≡◌, ℕ, Bool, true, false, if◌then◌else◌, List, [], ◌∷◌, Option, Some, None, Result, Ok, Err, bytes_eq, codes}
+use Rattle.std.proofs.Common.{refl, drop, length}
 use Rattle.std.specs.Option.{option_map_or}
 use Rattle.h41_breakpoints.specs.declared.location.Location.{Location}
 use Rattle.h41_keys.specs.Keyboard.{key_named}
 use Rattle.h41_commands.specs.Commands
-use Rattle.std.proofs.Common.{drop, length}
 use Rattle.std.specs.Prelude.{◌==◌}
 use Rattle.h41_commands.specs.Commands.{bank_number, first_bank, is_bank_word, plug_at_bank}
 use Rattle.h41_commands.specs.Commands.{and_then, break_location, command_by, command_of, counted_command, key_of, keys_of, kind_of_word}

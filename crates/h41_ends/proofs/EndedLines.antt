@@ -1,7 +1,6 @@
 -- The lines whose end was read, when reading stops.
 use Rattle.std.proofs.Common.{inl, inr, not, ◌≡◌, ◌⊎◌, ℕ, ◌+◌, ◌-◌, ◌<◌, ◌≤◌, ◌==◌, Bool, true, false, cond, nat_lt, List, [], ◌∷◌, ◌++◌}
-use Rattle.std.proofs.Common.{length}
-use Rattle.std.proofs.Common.{map, take, get_or, Some, None, refl, sym, subst, ap, ◌∙◌, arith, append_assoc, append-nil}
+use Rattle.std.proofs.Common.{length, map, take, get_or, Some, None, refl, sym, subst, ap, ◌∙◌, arith, append_assoc, append-nil}
 use Rattle.std.proofs.Common.{length-append}
 use Rattle.std.specs.List.{All, onto_first, position_or_len, slice_split}
 use Rattle.std.specs.Str.Lines.{lines_of_parts, strip_carriage_return}

@@ -7,14 +7,11 @@ use Rattle.h41_codes.specs.declared.functions.Function.{Function}
 use Rattle.h41_codes.specs.declared.line.Line.{Line}
 use Rattle.h41_codes.specs.declared.line.Line.TheVariants.{Module, Plain}
 use Rattle.h41_focal.specs.Destinations.{Arrives, Asks, Destination, Goes, GoesBack, Halts, HasNoLabel, HasNoLine, Manner, Passes, Runs}
-use Rattle.h41_focal.specs.Destinations.{Seeks, Stays}
-use Rattle.h41_focal.specs.Destinations.{Stepped, StepsFrom, Tells, Typed, TypedFrom, found_at, lost_name, typed_at}
+use Rattle.h41_focal.specs.Destinations.{Seeks, Stays, Stepped, StepsFrom, Tells, Typed, TypedFrom, found_at, lost_name, typed_at}
 use Rattle.h41_focal.specs.LineLaws.{LineIsDetermined, NameIsDetermined, StepIsDetermined, TypedIsDetermined}
-use Rattle.h41_focal.specs.LineStep.{Applies, AppliesTo, AppliesWith, CarriesOut, ComputesIn, Ends, Left}
+use Rattle.h41_focal.specs.LineStep.{Applies, AppliesTo, AppliesWith, CarriesOut, ComputesIn, Ends, Left, Stands, StandsAt, StepsAs}
+use Rattle.h41_focal.specs.LineStep.{TakesLine, Works, answer_of_showing, named_by, with_row}
 use Rattle.h41_positions.specs.FocalState.{Machine}
-use Rattle.h41_focal.specs.LineStep.{Stands, StandsAt, StepsAs, TakesLine, Works, answer_of_showing}
-use Rattle.h41_focal.specs.LineStep.{named_by}
-use Rattle.h41_focal.specs.LineStep.{with_row}
 use Rattle.h41_focal.specs.Outcomes.{Answer}
 use Rattle.h41_focal.specs.Outcomes as answers
 use Rattle.h41_focal.specs.OutsideCalls as sources

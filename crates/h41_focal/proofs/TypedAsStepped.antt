@@ -9,12 +9,10 @@ use Rattle.h41_focal.proofs.OneOutcome.{same_line, typed_determined}
 use Rattle.h41_focal.specs.Destinations.{Arrives, Destination, Stays, StepsFrom, Stepped, Typed, TypedFrom}
 use Rattle.h41_focal.specs.LineLaws.{AreAlike, GoesToNext, IsAt, NextIsHere, StepsInTurn, SteppedCanBeTyped, TypedAsStepped}
 use Rattle.h41_focal.specs.LineLaws.{TypedIsDetermined, TypesInTurn}
-use Rattle.h41_focal.specs.LineStep.{Applies, AppliesTo, AppliesWith, CarriesOut, Ends, EndsInError, Left, Stands, StepsAs}
-use Rattle.h41_positions.specs.FocalState.{FocalState, Machine}
-use Rattle.h41_focal.specs.LineStep.{StepsLine, TakesLine, TypesLine, answer_of_showing, with_fault_caught, left_done}
-use Rattle.h41_focal.specs.LineStep.{error_flag, left_by_fault, left_failed, named_by}
-use Rattle.h41_positions.specs.FocalState.{at_line}
-use Rattle.h41_focal.specs.LineStep.{with_row}
+use Rattle.h41_focal.specs.LineStep.{Applies, AppliesTo, AppliesWith, CarriesOut, Ends, EndsInError, Left, Stands, StepsAs, StepsLine}
+use Rattle.h41_focal.specs.LineStep.{TakesLine, TypesLine, answer_of_showing, with_fault_caught, left_done, error_flag, left_by_fault}
+use Rattle.h41_focal.specs.LineStep.{left_failed, named_by, with_row}
+use Rattle.h41_positions.specs.FocalState.{FocalState, Machine, at_line}
 use Rattle.h41_focal.specs.Outcomes.{calls_outside}
 use Rattle.h41_focal.specs.declared.refusal.FocalRefusal.{FocalRefusal}
 use Rattle.h41_focal.specs.declared.refusal.FocalRefusal.TheVariants.{NotInProfile}

@@ -4,9 +4,8 @@ use Rattle.std.specs.Prelude.{◌≡◌, ℕ, false, All, IfOk, List, [], ◌∷
 use Rattle.h41_codes.specs.declared.functions.Function.{Function}
 use Rattle.h41_codes.specs.declared.line.Line.{Line}
 use Rattle.h41_codes.specs.declared.line.Line.TheVariants.{Module}
-use Rattle.h41_focal.specs.LineStep.{Left}
+use Rattle.h41_focal.specs.LineStep.{Left, StepsLine, TypesLine}
 use Rattle.h41_positions.specs.FocalState.{Machine}
-use Rattle.h41_focal.specs.LineStep.{StepsLine, TypesLine}
 use Rattle.h41_focal.specs.OutsideCalls.{CarriesLine, IsNamed, Keys, LineSource, Program}
 use Rattle.h41_focal.specs.Outcomes.{calls_outside}
 use Rattle.h41_focal.specs.declared.refusal.FocalRefusal.{FocalRefusal}

@@ -10,8 +10,7 @@ use Rattle.clap.specs.Words.{App, Row, Rule, Shape, Text, subcommand_of}
 use Rattle.clap.specs.Walk.{Names, Walk, walk, walk_from, walked, nothing_held, settled, finished, has_long, has_short}
 use Rattle.clap.specs.Simple.{built, entered, built_leaf, filled, inherited, marked_built, with_index, with_leaf_noted, names_of}
 use Rattle.clap.specs.Kinds.{Kinds, or_else}
-use Rattle.clap.specs.Faults.{fault_of, turn_fault, walk_fault, settle_fault, defaults_fault, check_fault, level_fault}
-use Rattle.clap.specs.Faults.{entered_fault}
+use Rattle.clap.specs.Faults.{fault_of, turn_fault, walk_fault, settle_fault, defaults_fault, check_fault, level_fault, entered_fault}
 use Rattle.clap.specs.declared.error.kind.ErrorKind.TheVariants as kind
 use Rattle.clap.proofs.FaultLemmas.{stopped_fault}
 use Rattle.clap.proofs.WalkLemmas.{walk_stopped}

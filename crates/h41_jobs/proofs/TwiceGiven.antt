@@ -13,8 +13,7 @@ use Rattle.clap.proofs.WalkLemmas.{both}
 use Rattle.h41_jobs.specs.BenchCommand.{bench_app}
 use Rattle.h41_jobs.specs.CommandLine.{give_two, gives_option, gives_twice, is_command, is_flag}
 use Rattle.h41_jobs.proofs.WordTurns.{at, plain_turn}
-use Rattle.h41_jobs.proofs.CommandWalks.{CommandName, asm_name, command_fault, dis_name, first_plain, leaf, name_text}
-use Rattle.h41_jobs.proofs.CommandWalks.{run_name, taken}
+use Rattle.h41_jobs.proofs.CommandWalks.{CommandName, asm_name, command_fault, dis_name, first_plain, leaf, name_text, run_name, taken}
 use Rattle.h41_jobs.proofs.CommandLemmas.{IsRefusal, command_named, first_kinds, one_refusal}
 
 -- The option of a command, up to its value.

@@ -8,9 +8,8 @@ use Rattle.std.specs.Str.{chars}
 use Rattle.std.proofs.lemmas.Bool.{eqb-true}
 use Rattle.std.proofs.lemmas.Slice.Eq.{bytes_eq-Decides}
 use Rattle.clap.specs.Words.{Row, Rule, Shape, Text}
-use Rattle.clap.specs.Walk.{Outcome, after_flag, after_step, subcommand_met, subcommand_or_other, trailing, Held, Names}
-use Rattle.clap.specs.Walk.{Step, Walk, idle, word_met, value, walked, arg_by_long, arg_by_short, arg_by_index}
-use Rattle.clap.specs.Walk.{long_or_other, short_or_plain, to_positional}
+use Rattle.clap.specs.Walk.{Outcome, after_flag, after_step, subcommand_met, subcommand_or_other, trailing, Held, Names, Step, Walk, idle}
+use Rattle.clap.specs.Walk.{word_met, value, walked, arg_by_long, arg_by_short, arg_by_index, long_or_other, short_or_plain, to_positional}
 use Rattle.clap.specs.Walk as outcome
 use Rattle.clap.specs.Simple.{filled, help_rule, version_rule, with_index}
 use Rattle.clap.specs.Lexer.{long_of, long_of_rest, short_of, short_of_rest, strip_byte}

@@ -6,8 +6,7 @@ use Rattle.h41_codes.specs.declared.functions.Function.TheVariants as functions
 use Rattle.h41_keys.specs.Keyboard.{KeyRow, row_of}
 use Rattle.h41_keys.specs.NumberTyping.{value_of, without_last}
 use Rattle.h41_keys.specs.Prompts.{prompt_row, digits_wanted, takes_stack, parameter_line}
-use Rattle.h41_keys.specs.Prompts.{name_line}
-use Rattle.h41_keys.specs.Prompts.{stack_register}
+use Rattle.h41_keys.specs.Prompts.{name_line, stack_register}
 use Rattle.h41_keys.specs.declared.key.Digit.{Digit}
 use Rattle.h41_keys.specs.declared.key.Key.{Key}
 use Rattle.h41_keys.specs.declared.meaning.Meaning.{Meaning}

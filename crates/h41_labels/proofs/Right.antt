@@ -1,6 +1,5 @@
 -- Cached answers that are what their searches find.
-use Rattle.std.proofs.Common.{◌≡◌, ℕ, Bool, true, false, None, Some, refl, sym, subst, arith}
-use Rattle.std.proofs.Common.{List, [], ◌∷◌, drop, length}
+use Rattle.std.proofs.Common.{◌≡◌, ℕ, Bool, true, false, None, Some, refl, sym, subst, arith, List, [], ◌∷◌, drop, length}
 use Rattle.std.specs.Prelude.{MatchOption, Option, is_some, nat_lt, if◌then◌else◌, slice_index_or}
 use Rattle.std.proofs.lemmas.List.Elements.{All-drop, All-push, All-tail}
 use Rattle.h41_labels.specs.KeptAnswers.{Finds, IsRight, KeepsSearch, answer_of, is_same, with_answer}

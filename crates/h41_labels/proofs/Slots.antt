@@ -1,7 +1,6 @@
 -- The slots in which the cache stores its answers.
-use Rattle.std.proofs.Common.{◌≡◌, ◌+◌, ◌-◌, ◌%◌, ◌<◌, ◌≤◌, ◌⊎◌, ℕ, inl, inr, sym, ap, subst, ◌∙◌, arith}
-use Rattle.std.proofs.Common.{List, [], ◌∷◌, ◌++◌, drop, length, map, set, take, append-nil, append_assoc}
-use Rattle.std.proofs.Common.{length-append, length-drop, length-set, take_all}
+use Rattle.std.proofs.Common.{◌≡◌, ◌+◌, ◌-◌, ◌%◌, ◌<◌, ◌≤◌, ◌⊎◌, ℕ, inl, inr, sym, ap, subst, ◌∙◌, arith, List, [], ◌∷◌, ◌++◌, drop, length}
+use Rattle.std.proofs.Common.{map, set, take, append-nil, append_assoc, length-append, length-drop, length-set, take_all}
 use Rattle.std.specs.List.{refill}
 use Rattle.std.proofs.lemmas.Bool.{cases_eq}
 use Rattle.std.proofs.lemmas.List.{drop-append-le, drop-map, drop-set-lt, drop_all, drop_more, length-take, map-set}

@@ -10,8 +10,7 @@ use Rattle.h41_decimal.specs.declared.fault.DecimalFault.TheVariants.{Data, Rang
 use Rattle.h41_decimal.specs.declared.sign.Sign.{Sign}
 use Rattle.h41_decimal.specs.declared.ten.Ten.{Ten}
 use Rattle.h41_digits.specs.Register.{IsRegister}
-use Rattle.h41_focal.specs.Destinations.{Destination, Halts, HasNoLabel, HasNoLine, Manner, Seeks, Stepped}
-use Rattle.h41_focal.specs.Destinations.{Typed}
+use Rattle.h41_focal.specs.Destinations.{Destination, Halts, HasNoLabel, HasNoLine, Manner, Seeks, Stepped, Typed}
 use Rattle.h41_focal.specs.LineStep.{Applies, AppliesTo, AppliesWith, CarriesOut, ComputesIn, Ends, EndsInError, Left, Stands}
 use Rattle.h41_positions.specs.FocalState.{Machine, at_line}
 use Rattle.h41_focal.specs.LineStep.{TakesLine, Works, answer_of_showing, error_flag, left_by_fault, left_done}

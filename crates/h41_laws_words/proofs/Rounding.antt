@@ -1,6 +1,5 @@
 -- Each exact size above zero has its nearest decimal: it is cut to eleven digits, and these are rounded.
-use Rattle.std.proofs.Common.{◌≡◌, ℕ, zero, suc, ◌+◌, ◌-◌, ◌*◌, ◌/◌, ◌^◌, ◌<◌, ◌≤◌, inl, inr, ◌∙◌, ap, refl, subst}
-use Rattle.std.proofs.Common.{arith, Result, Ok, Err}
+use Rattle.std.proofs.Common.{◌≡◌, ℕ, zero, suc, ◌+◌, ◌-◌, ◌*◌, ◌/◌, ◌^◌, ◌<◌, ◌≤◌, inl, inr, ◌∙◌, ap, refl, subst, arith, Result, Ok, Err}
 use Rattle.std.proofs.Common.{true, false}
 use Rattle.std.specs.Prelude.{ℤ, pos, negsuc, nat_le}
 use Rattle.std.proofs.Math.Nat.{mul-le-mul_right, mul-le-mul, div-mul-le_self, lt-div-mul-add}

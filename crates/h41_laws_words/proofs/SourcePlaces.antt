@@ -11,8 +11,7 @@ use Rattle.h41_asm.specs.Operands.{is_text, text_in}
 use Rattle.h41_asm.specs.Placing.{Labels, LineSpells, LinesSpell, SpellsRead, StatementSpells}
 use Rattle.h41_asm.specs.SourceLines.{SourceLine, is_name}
 use Rattle.h41_asm.specs.Statements.{Statement, Words, OutOfReach, LongJumpTo, ShortJumpTo, EntryAt, name_words, reading_of}
-use Rattle.h41_asm.specs.Statements.{value_statement, singles}
-use Rattle.h41_asm.specs.Statements.{statement_length, takers}
+use Rattle.h41_asm.specs.Statements.{value_statement, singles, statement_length, takers}
 use Rattle.h41_laws_words.specs.DirectivesRead.{lines_length}
 
 -- The number of a line's own words is the length of the line.

@@ -1,7 +1,6 @@
 -- A word leaves registers of 14 digits.
-use Rattle.std.proofs.Common.{◌≡◌, ℕ, ◌+◌, ◌/◌, ◌%◌, ◌<◌, true, List, take, drop}
-use Rattle.std.proofs.Common.{arith, get_or}
-use Rattle.std.proofs.Common.{Option, Some, None, Err, slice_index, slice_set, is_some, length}
+use Rattle.std.proofs.Common.{◌≡◌, ℕ, ◌+◌, ◌/◌, ◌%◌, ◌<◌, true, List, take, drop, arith, get_or, Option, Some, None, Err, slice_index}
+use Rattle.std.proofs.Common.{slice_set, is_some, length}
 use Rattle.std.specs.Int.RustNames.{bit_and, bit_or}
 use Rattle.std.specs.List.{list_all}
 use Rattle.std.specs.Prelude.{◌==◌, IfSome, nat_le}
@@ -24,8 +23,7 @@ use Rattle.h41_nut.specs.Processor.{Processor}
 use Rattle.h41_nut.specs.RegisterWords.{address_digits, address_in_c, after_transfer, byte_at_pointer, byte_digits}
 use Rattle.h41_nut.specs.RegisterWords as nut
 use Rattle.h41_nut.specs.RegisterWords.{with_digits, word_digits}
-use Rattle.h41_nut.specs.WordStep.{Nut, WordEffect, keys_after, pages_after, ram_after, registers_after, second_word, state_after}
-use Rattle.h41_nut.specs.WordStep.{word_of}
+use Rattle.h41_nut.specs.WordStep.{Nut, WordEffect, keys_after, pages_after, ram_after, registers_after, second_word, state_after, word_of}
 use Rattle.h41_pages.proofs.PageMaps.{choice_changed, word_changed}
 use Rattle.h41_pages.specs.Addresses.{is_system, last_word, offset_of, page_of, page_size}
 use Rattle.h41_pages.specs.PageMap.{IsHeldImage, IsPageMap, PageImage, PageMap, bank_place, chosen_at, chosen_image, fetched, image_at}

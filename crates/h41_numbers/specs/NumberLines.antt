@@ -1,9 +1,8 @@
 -- The value of the characters of a number line. The rules are those of number entry in the Owner's
 -- Handbook; their extension to characters that number entry does not allow is this project's
 -- choice. The characters up to the first E are the mantissa, those after it the exponent.
-use Rattle.std.specs.Prelude.{◌≡◌, ℕ, ◌+◌, ◌-◌, ◌*◌, ◌%◌, not, ◌&&◌, List, []}
-use Rattle.std.specs.Prelude.{◌∷◌, length, take, drop, filter, ◌==◌, if◌then◌else◌, Option, Some}
-use Rattle.std.specs.Prelude.{None}
+use Rattle.std.specs.Prelude.{◌≡◌, ℕ, ◌+◌, ◌-◌, ◌*◌, ◌%◌, not, ◌&&◌, List, [], ◌∷◌, length, take}
+use Rattle.std.specs.Prelude.{drop, filter, ◌==◌, if◌then◌else◌, Option, Some, None}
 use Rattle.std.specs.List.{list_any, take_while}
 use Rattle.std.specs.Option.{option_map_or}
 use Rattle.h41_codes.specs.NumberCharacters.{exponent_part, is_exponent, is_minus, is_point}

@@ -5,8 +5,7 @@ use Rattle.std.proofs.lemmas.Bool.{cases_eq, cases_lt}
 use Rattle.std.proofs.lemmas.List.{set_past}
 use Rattle.h41_words.specs.declared.rows.Bank.{Bank}
 use Rattle.h41_words.specs.declared.rows.Bank.TheVariants.{First, Second, Third, Fourth}
-use Rattle.h41_pages.specs.Addresses.{page_of, is_system}
-use Rattle.h41_pages.specs.Addresses.{page_count, page_size, offset_of, first_page}
+use Rattle.h41_pages.specs.Addresses.{page_of, is_system, page_count, page_size, offset_of, first_page}
 use Rattle.h41_pages.specs.PageLaws.{address_in, PluggingKeepsOtherBanks, WritingKeepsOtherBanks, UnpluggingKeepsOtherBanks}
 use Rattle.h41_pages.specs.PageLaws.{ChoosingKeepsBanks}
 use Rattle.h41_pages.specs.PageMap.{PageMap, PageImage, IsPageMap, banks_at, chosen_at, chosen_image, bank_place, bank_numbered, fetched}

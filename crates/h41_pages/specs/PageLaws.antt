@@ -4,9 +4,8 @@ use Rattle.std.specs.Prelude.{IfSome, Some, None, Ok, Err}
 use Rattle.h41_words.specs.declared.rows.Bank.{Bank}
 use Rattle.h41_pages.specs.Addresses.{page_size, first_page, last_page, page_of}
 use Rattle.h41_pages.specs.PageMap.{PageMap, PageImage, IsPageMap, image_at, chosen_at}
-use Rattle.h41_pages.specs.PageMap.{bank_numbered}
-use Rattle.h41_pages.specs.PageMap.{is_image, with_page_image, without_images, with_chosen, fetched}
-use Rattle.h41_pages.specs.PageMap.{write_refusal, written}
+use Rattle.h41_pages.specs.PageMap.{bank_numbered, is_image, with_page_image, without_images}
+use Rattle.h41_pages.specs.PageMap.{with_chosen, fetched, write_refusal, written}
 use Rattle.h41_pages.specs.Images.{image_bytes, words_in, read_refusal, IsImageAt}
 use Rattle.h41_pages.specs.declared.refusal.FetchRefusal.TheVariants.{EmptyPage}
 

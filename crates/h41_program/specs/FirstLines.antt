@@ -1,9 +1,8 @@
 -- The first line from a position on in a list of bytes, and the lines that are read in turn from
 -- there. Nulls before a line are skipped. How bytes that are no line are treated is this project's
 -- choice.
-use Rattle.std.specs.Prelude.{◌≡◌, ◌≢◌, ℕ, ◌+◌, ◌<◌, ◌≤◌, Bool, MatchBool}
-use Rattle.std.specs.Prelude.{List, [], ◌∷◌, length, drop, slice_index, slice_range, nat_lt, ◌==◌}
-use Rattle.std.specs.Prelude.{if◌then◌else◌}
+use Rattle.std.specs.Prelude.{◌≡◌, ◌≢◌, ℕ, ◌+◌, ◌<◌, ◌≤◌, Bool, MatchBool, List, [], ◌∷◌, length}
+use Rattle.std.specs.Prelude.{drop, slice_index, slice_range, nat_lt, ◌==◌, if◌then◌else◌}
 use Rattle.h41_codes.specs.ByteGrammar.{spelling, Begins}
 use Rattle.h41_codes.specs.declared.line.Line.{Line}
 use Rattle.h41_codes.specs.declared.line.Line.TheVariants.{Null}

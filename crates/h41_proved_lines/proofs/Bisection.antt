@@ -41,8 +41,7 @@ use Rattle.h41_reasoning_lines.proofs.Registers.{data_found, number_in_x, recall
 use Rattle.h41_reasoning_lines.proofs.Rounds.{by_last, line_then, more_lines_suffice}
 use Rattle.h41_reasoning_lines.proofs.Stacks.{same_program, still}
 use Rattle.h41_reasoning_lines.proofs.Stepping.{after_line, before_line, by_state, ended, global_label, go_to, label, last_recalled, of_one}
-use Rattle.h41_reasoning_lines.proofs.Stepping.{of_two}
-use Rattle.h41_reasoning_lines.proofs.Stepping.{returned, test_false, test_true}
+use Rattle.h41_reasoning_lines.proofs.Stepping.{of_two, returned, test_false, test_true}
 use Rattle.h41_reasoning_lines.proofs.Wholes.{whole_ten}
 use Rattle.h41_proved_lines.specs.Bisection.{Contains, HalvesBracket, HasHalved, IsBracket, IsMiddle, IsSquare, half_body, half_lines}
 use Rattle.h41_proved_lines.proofs.AbsoluteDifference.{register_of}

@@ -1,5 +1,4 @@
-use Rattle.std.proofs.Common.{◌≡◌, ℕ, ◌+◌, ◌^◌, ◌<◌, Bool, true, false, List, [], ◌∷◌, Some}
-use Rattle.std.proofs.Common.{inl, inr, refl, sym, ap, ◌∙◌, subst, arith}
+use Rattle.std.proofs.Common.{◌≡◌, ℕ, ◌+◌, ◌^◌, ◌<◌, Bool, true, false, List, [], ◌∷◌, Some, inl, inr, refl, sym, ap, ◌∙◌, subst, arith}
 use Rattle.std.specs.Prelude.{codes, ℤ}
 use Rattle.std.proofs.lemmas.Bool.{cases_lt}
 use Rattle.h41_codes.specs.declared.functions.Function.TheVariants as functions
@@ -33,8 +32,7 @@ use Rattle.h41_reasoning_lines.proofs.Programs.{IsLast, all_in_turn, leads_back}
 use Rattle.h41_reasoning_lines.proofs.Rounds.{at_end, by_last, by_line, leaves_in_turn, line_then, loops_end, more_suffice}
 use Rattle.h41_reasoning_lines.proofs.Stacks.{same_program, still}
 use Rattle.h41_reasoning_lines.proofs.Stepping.{after_line, before_line, by_state, ended, exchanged, global_label, go_to, label}
-use Rattle.h41_reasoning_lines.proofs.Stepping.{last_recalled}
-use Rattle.h41_reasoning_lines.proofs.Stepping.{of_two, test_false, test_true}
+use Rattle.h41_reasoning_lines.proofs.Stepping.{last_recalled, of_two, test_false, test_true}
 use Rattle.h41_reasoning_lines.proofs.Wholes.{modulo_whole, tells_some, tells_zero, whole, whole_ten}
 use Rattle.h41_proved_lines.specs.GreatestCommonDivisor.{GreatestCommonDivisorReturns, HasGreatestCommonDivisor, gcd_body, gcd_lines}
 use Rattle.h41_proved_lines.proofs.AbsoluteDifference.{register_of}

@@ -1,8 +1,7 @@
 -- The program LBL "SUM", ENTER, 0, LBL 01, RCL IND Y, +, ISG Y, GTO 01, END: the sum of the data
 -- registers R00 to Rn. X contains the counter 0.nnn at the start.
 use Rattle.std.specs.Prelude.{◌≡◌, ℕ, zero, suc, ◌+◌, ◌-◌, ◌*◌, ◌^◌, ◌<◌, ◌≤◌, true, List, [], ◌∷◌}
-use Rattle.std.specs.Prelude.{◌++◌}
-use Rattle.std.specs.Prelude.{Ok, ℤ, pos, ◌+ℤ◌, ◌*ℤ◌, unsigned_abs, codes}
+use Rattle.std.specs.Prelude.{◌++◌, Ok, ℤ, pos, ◌+ℤ◌, ◌*ℤ◌, unsigned_abs, codes}
 use Rattle.h41_codes.specs.declared.characters.Character.TheVariants as characters
 use Rattle.h41_codes.specs.declared.functions.Function.TheVariants.{Add, Enter}
 use Rattle.h41_codes.specs.declared.functions.ParameterFunction.TheVariants.{IncrementSkip, Recall}

@@ -6,8 +6,7 @@ use Rattle.std.specs.Bool.{then_some}
 use Rattle.std.proofs.lemmas.Bool.{and_parts, ltb-true, leb-true}
 use Rattle.std.proofs.lemmas.Bool.Decides.{nat_tests}
 use Rattle.h41_ram.specs.RegisterMap.{RegisterMap, address_of, zeros, register_at, with_register, constant_of, end_of, curtain_of, top_of}
-use Rattle.h41_ram.specs.RegisterMap.{is_final_end}
-use Rattle.h41_ram.specs.RegisterMap.{is_sound}
+use Rattle.h41_ram.specs.RegisterMap.{is_final_end, is_sound}
 use Rattle.h41_ram.specs.RegisterMapLaws.{StatusIsRead, OtherStatusStays, DataIsRead, OtherDataStay, DataKeepSound}
 use Rattle.h41_ram.specs.NamedRegisters.{size_of, data_address, data_of}
 use Rattle.h41_ram.specs.declared.status.StatusRegister.{StatusRegister}

@@ -1,7 +1,5 @@
 -- Numbers that parts of a register form: parts that are kept, copied, moved and put together.
-use Rattle.std.proofs.Common.{◌≡◌, ℕ, zero, suc, ◌+◌, ◌-◌, ◌*◌, ◌^◌, ◌<◌, ◌≤◌, List}
-use Rattle.std.proofs.Common.{slice_index, refl, ap, sym, ◌∙◌, arith}
-use Rattle.std.proofs.Common.{pow-add}
+use Rattle.std.proofs.Common.{◌≡◌, ℕ, zero, suc, ◌+◌, ◌-◌, ◌*◌, ◌^◌, ◌<◌, ◌≤◌, List, slice_index, refl, ap, sym, ◌∙◌, arith, pow-add}
 use Rattle.std.proofs.Math.Nat.{pow-succ', pow-zero, mul-le-mul_left}
 use Rattle.std.specs.List.{sum_by, range_with_len}
 use Rattle.h41_arith.proofs.Borrows.{sum_more}

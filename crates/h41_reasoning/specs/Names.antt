@@ -1,9 +1,8 @@
 -- The names of other crates that theorems about microcode cite, passed on from one place. Declares
 -- nothing.
 pub use Rattle.std.specs.Prelude.{◌≡◌, ◌≢◌, ℕ, suc, pos, negsuc, ◌+◌, ◌-◌, ◌*◌, ◌/◌, ◌%◌, ◌^◌, ◌<◌}
-pub use Rattle.std.specs.Prelude.{◌≤◌, ◌⊎◌}
-pub use Rattle.std.specs.Prelude.{Bool, true, false, not, List, [], ◌∷◌, length, slice_index}
-pub use Rattle.std.specs.Prelude.{slice_set}
+pub use Rattle.std.specs.Prelude.{◌≤◌, ◌⊎◌, Bool, true, false, not, List, [], ◌∷◌, length}
+pub use Rattle.std.specs.Prelude.{slice_index, slice_set}
 pub use Rattle.std.specs.Int.Signed.{le_z_yes}
 pub use Rattle.std.specs.Int.Bits.{bit_and, bit_or}
 pub use Rattle.h41_arith.specs.DigitRule.{DifferenceInto, SumInto, carry_digit, copy_of}

@@ -4,19 +4,16 @@ pub use Rattle.h41_words.specs.declared.operation.Operation.TheVariants.{Exchang
 pub use Rattle.h41_words.specs.declared.operation.Operation.TheVariants.{ExchangeAC, BToC}
 pub use Rattle.h41_words.specs.declared.operation.Operation.TheVariants.{ExchangeBC, CToA, AddBToA}
 pub use Rattle.h41_words.specs.declared.operation.Operation.TheVariants.{AddCToA, IncrementA}
-pub use Rattle.h41_words.specs.declared.operation.Operation.TheVariants.{SubtractBFromA}
-pub use Rattle.h41_words.specs.declared.operation.Operation.TheVariants.{DecrementA, SubtractCFromA}
-pub use Rattle.h41_words.specs.declared.operation.Operation.TheVariants.{DoubleC, AddAToC}
-pub use Rattle.h41_words.specs.declared.operation.Operation.TheVariants.{IncrementC}
+pub use Rattle.h41_words.specs.declared.operation.Operation.TheVariants.{SubtractBFromA, DecrementA}
+pub use Rattle.h41_words.specs.declared.operation.Operation.TheVariants.{SubtractCFromA, DoubleC}
+pub use Rattle.h41_words.specs.declared.operation.Operation.TheVariants.{AddAToC, IncrementC}
 pub use Rattle.h41_words.specs.declared.operation.Operation.TheVariants.{SubtractCFromAToC}
-pub use Rattle.h41_words.specs.declared.operation.Operation.TheVariants.{DecrementC}
-pub use Rattle.h41_words.specs.declared.operation.Operation.TheVariants.{NegateC, ComplementC}
-pub use Rattle.h41_words.specs.declared.operation.Operation.TheVariants.{TestBNonzero}
+pub use Rattle.h41_words.specs.declared.operation.Operation.TheVariants.{DecrementC, NegateC}
+pub use Rattle.h41_words.specs.declared.operation.Operation.TheVariants.{ComplementC, TestBNonzero}
 pub use Rattle.h41_words.specs.declared.operation.Operation.TheVariants.{TestCNonzero}
 pub use Rattle.h41_words.specs.declared.operation.Operation.TheVariants.{TestALessThanC}
 pub use Rattle.h41_words.specs.declared.operation.Operation.TheVariants.{TestALessThanB}
 pub use Rattle.h41_words.specs.declared.operation.Operation.TheVariants.{TestANonzero}
 pub use Rattle.h41_words.specs.declared.operation.Operation.TheVariants.{TestADiffersFromC}
-pub use Rattle.h41_words.specs.declared.operation.Operation.TheVariants.{ShiftRightA}
-pub use Rattle.h41_words.specs.declared.operation.Operation.TheVariants.{ShiftRightB, ShiftRightC}
-pub use Rattle.h41_words.specs.declared.operation.Operation.TheVariants.{ShiftLeftA}
+pub use Rattle.h41_words.specs.declared.operation.Operation.TheVariants.{ShiftRightA, ShiftRightB}
+pub use Rattle.h41_words.specs.declared.operation.Operation.TheVariants.{ShiftRightC, ShiftLeftA}

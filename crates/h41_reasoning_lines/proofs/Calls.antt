@@ -27,10 +27,9 @@ use Rattle.h41_reasoning_lines.specs.ProgramLines.{FindsName, HasProgram, IsProg
 use Rattle.h41_reasoning_lines.specs.ProgramStates.{HasBecome, data_in, with_content}
 use Rattle.h41_reasoning_lines.specs.Stacks.{Stack}
 use Rattle.h41_reasoning_lines.specs.Subroutines.{IsBack}
-use Rattle.h41_reasoning_lines.proofs.Listed.{IsListed, also, lines_from}
+use Rattle.h41_reasoning_lines.proofs.Listed.{IsListed, also, lines_from, IsLineAt}
 use Rattle.h41_reasoning_lines.proofs.Programs.{program_also}
 use Rattle.h41_reasoning_lines.proofs.ProgramStates.{address_stays, curtain_stays, program_stays, size_stays}
-use Rattle.h41_reasoning_lines.proofs.Listed.{IsLineAt}
 use Rattle.h41_reasoning_lines.proofs.Rounds.{leaves_as, leaves_in_turn, line_then}
 use Rattle.h41_reasoning_lines.proofs.Stepping.{after_line, before_line, executes, executes_named, goes_named}
 use Rattle.h41_reasoning_lines.proofs.Subroutines.{call_returns}

@@ -9,8 +9,7 @@ use Rattle.h41_decimal.proofs.Determined.{nearest_determined}
 use Rattle.h41_decimal.proofs.Held.{register_determined}
 use Rattle.h41_decimal.proofs.Same.{units_injective}
 use Rattle.h41_decimal.proofs.Tens.{own_nearest}
-use Rattle.h41_laws_words.specs.DecimalAnswers.{DecimalHasOneRegister, FractionHasOneNearest, QuotientHasOneNearest}
-use Rattle.h41_laws_words.specs.DecimalAnswers.{RegisterHoldsDecimal}
+use Rattle.h41_laws_words.specs.DecimalAnswers.{DecimalHasOneRegister, FractionHasOneNearest, QuotientHasOneNearest, RegisterHoldsDecimal}
 use Rattle.h41_laws_words.proofs.Answering.{has_one, nearest, quotient}
 use Rattle.h41_laws_words.proofs.Writing.{from_register, in_register}
 use Rattle.h41_program.specs.ProgramLaws.{OneList, ReadIsDetermined}

@@ -26,10 +26,9 @@ use Rattle.h41_refusals.specs.declared.refusal.line.Detail.{Detail}
 use Rattle.h41_refusals.specs.declared.refusal.line.Detail.TheVariants as details
 use Rattle.h41_refusals.specs.declared.refusal.Refusal.{Refusal}
 use Rattle.h41_refusals.specs.declared.refusal.Refusal.TheVariants.{NoSuchPage, Occupied}
-use Rattle.h41_refusals.specs.declared.refusal.Refusal.TheVariants.{NotPlugged}
-use Rattle.h41_refusals.specs.declared.refusal.Refusal.TheVariants.{Calculator, Line, BreakFull}
-use Rattle.h41_refusals.specs.declared.refusal.Refusal.TheVariants.{NoBreak, OutOfMemory, ReadFault}
-use Rattle.h41_refusals.specs.declared.refusal.Refusal.TheVariants.{WriteFault}
+use Rattle.h41_refusals.specs.declared.refusal.Refusal.TheVariants.{NotPlugged, Calculator, Line}
+use Rattle.h41_refusals.specs.declared.refusal.Refusal.TheVariants.{BreakFull, NoBreak, OutOfMemory}
+use Rattle.h41_refusals.specs.declared.refusal.Refusal.TheVariants.{ReadFault, WriteFault}
 use Rattle.h41_refusals.specs.declared.fault.Fault.{Fault}
 use Rattle.h41_refusals.specs.declared.fault.Fault.TheVariants as faults
 

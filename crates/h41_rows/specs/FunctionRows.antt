@@ -6,10 +6,9 @@ use Rattle.h41_decimal.specs.Units.{size_of}
 use Rattle.h41_ram.specs.NamedFlags.{alpha_mode, grads, radians}
 use Rattle.h41_rows.specs.Places.{T, Z, Y, X, LastX}
 use Rattle.h41_rows.specs.Rows.{LineRow, Becomes, LosesSix, FlagChange, In, Nought, Same, Differ}
-use Rattle.h41_rows.specs.Rows.{Below}
-use Rattle.h41_rows.specs.Rows.{AtMost, Returns, NoText, AlphaText, Stops, TurnsOff, Off}
-use Rattle.h41_rows.specs.Rows.{lifting_row}
-use Rattle.h41_rows.specs.Rows.{silent_row, copy, compute, of_x, of_y_and_x, coming_in, test}
+use Rattle.h41_rows.specs.Rows.{Below, AtMost, Returns, NoText, AlphaText, Stops, TurnsOff, Off}
+use Rattle.h41_rows.specs.Rows.{lifting_row, silent_row, copy, compute, of_x, of_y_and_x, coming_in}
+use Rattle.h41_rows.specs.Rows.{test}
 use Rattle.h41_rows.specs.Values.{Given, OfOne, OfTwo}
 use Rattle.h41_rows.specs.declared.values.ValueOfOne.TheVariants as ones
 use Rattle.h41_rows.specs.declared.values.ValueOfTwo.TheVariants as twos

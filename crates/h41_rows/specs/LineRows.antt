@@ -21,8 +21,7 @@ use Rattle.h41_rows.specs.Operands.{Meant, Count, Name}
 use Rattle.h41_rows.specs.Places.{X, Named}
 use Rattle.h41_rows.specs.Rows.{LineRow, FlagChange, Becomes, Appends, AppendsNamed, Counts, Flag}
 use Rattle.h41_rows.specs.Rows.{Loops, NamedText, Returns, SixCharacters, ToLabel, ToName}
-use Rattle.h41_rows.specs.Rows.{lifting_row}
-use Rattle.h41_rows.specs.Rows.{silent_row, copy, compute, coming_in, test}
+use Rattle.h41_rows.specs.Rows.{lifting_row, silent_row, copy, compute, coming_in, test}
 use Rattle.h41_rows.specs.Values.{Value, OfOne, OfTwo, Written, counted}
 use Rattle.h41_rows.specs.declared.values.ValueOfTwo.TheVariants as twos
 

@@ -33,8 +33,7 @@ use Rattle.h41_text.specs.LineText.{line_text, parameter_text, operand_text, num
 use Rattle.h41_text.specs.LineReading.{HasText}
 use Rattle.h41_text.specs.private.TextParts.{word_text, word_line, operand_of, operand_from, behind_ind, two_digits_of, module_line}
 use Rattle.h41_text.specs.private.TextParts.{first_character, unquoted_text, at_most, begins_with, branch_line, character_of, characters_of}
-use Rattle.h41_text.specs.private.TextParts.{number_of}
-use Rattle.h41_text.specs.private.TextParts.{parts_at_blank, cut_line, or_else, minus_line, unquoted_line, candidate_line}
+use Rattle.h41_text.specs.private.TextParts.{number_of, parts_at_blank, cut_line, or_else, minus_line, unquoted_line, candidate_line}
 use Rattle.h41_text.proofs.Canonical as canonical_text
 use Rattle.h41_text.proofs.Finding.{is_found, parameter_found, number_none}
 use Rattle.h41_text.proofs.Unquoting.{unquoted_more, unquoted_end}

@@ -8,11 +8,10 @@ use Rattle.h41_program.specs.Lines.{is_end, is_final_end, is_label}
 use Rattle.h41_program.specs.ProgramBytes.{final_position, program_bytes}
 use Rattle.h41_program.specs.ProgramLaws.{OneList, ReadIsDetermined}
 use Rattle.h41_program.specs.FirstLines.{behind}
-use Rattle.h41_program.specs.ProgramLines.{LinesFrom, Reads}
+use Rattle.h41_program.specs.ProgramLines.{LinesFrom, Reads, memory_source}
 use Rattle.h41_program.specs.Searches.{AnswersLocal, AnswersProgram, label_in, position_of, start_in, up_to_end}
 use Rattle.h41_program.specs.declared.listed_line.ListedLine.{ListedLine}
 use Rattle.h41_program.proofs.SearchSteps.{label_in-end, label_in-here, label_in-other, none_or}
-use Rattle.h41_program.specs.ProgramLines.{memory_source}
 use Rattle.h41_walk.specs.Searches.{MemoryStarts, Otherwise, label_position}
 use Rattle.h41_program.specs.Sources.{ProgramFrom, is_program_end}
 use Rattle.h41_walk.specs.Searches as walk

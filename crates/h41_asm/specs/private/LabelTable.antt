@@ -17,8 +17,7 @@ use Rattle.h41_asm.specs.declared.statement.Statement as code
 use Rattle.h41_asm.specs.Assembly.{address_count}
 use Rattle.h41_asm.specs.private.CodeStatements.{in_code, in_label, in_line}
 use Rattle.h41_asm.specs.Faults.{FaultOnLine, first_fault, label_address, line_length}
-use Rattle.h41_asm.specs.Faults.{numbered_lines}
-use Rattle.h41_asm.specs.Faults.{own_fault, own_fault_at, reference_fault}
+use Rattle.h41_asm.specs.Faults.{numbered_lines, own_fault, own_fault_at, reference_fault}
 use Rattle.h41_asm.specs.Placing.{Labels, StatementSpells}
 use Rattle.h41_asm.specs.SourceLines.{SourceLine, source_lines}
 use Rattle.h41_asm.specs.Statements.{Statement, is_in_reach, reading_of}

@@ -18,9 +18,8 @@ use Rattle.h41_commands.specs.declared.blocks.source_text.SourceText.{SourceText
 use Rattle.h41_commands.specs.declared.commands.PageKind.{PageKind}
 use Rattle.h41_commands.specs.declared.commands.ProgramKind.{ProgramKind}
 use Rattle.h41_commands.specs.Blocks.{block_bytes, block_source, block_words}
-use Rattle.h41_commands.specs.private.TakenBlocks.{TakenBlock, judgement}
+use Rattle.h41_commands.specs.private.TakenBlocks.{TakenBlock, judgement, kept_bytes, most_kept}
 use Rattle.h41_commands.specs.Blocks.{line_bytes, word_values}
-use Rattle.h41_commands.specs.private.TakenBlocks.{kept_bytes, most_kept}
 use Rattle.h41_commands.specs.PageBlocks.{Fills}
 use Rattle.h41_commands.specs.ProgramBlocks.{Means}
 

@@ -18,16 +18,14 @@ use Rattle.h41_focal.specs.Destinations as destinations
 use Rattle.h41_focal.specs.MachineCalls.{Call, carried_as, left_of}
 use Rattle.h41_focal.specs.LineStep.{Applies, EndsInError, Left, Stands, TakesLine}
 use Rattle.h41_focal.specs.OutsideCalls.{CallsName, CarriesWhole, GoesOnFrom, left_by_entry}
-use Rattle.h41_positions.specs.FocalState.{FocalState, Machine}
-use Rattle.h41_positions.specs.FocalState.{at_position}
+use Rattle.h41_positions.specs.FocalState.{FocalState, Machine, at_position}
 use Rattle.h41_rows.specs.Operands.{Address, Count, DigitKind, FlagKind, NoOperand, RegisterKind}
 use Rattle.h41_rows.specs.Operands.{meant_as}
 use Rattle.h41_rows.specs.Computing.{meant_by}
 use Rattle.h41_rows.specs.RowEffects.{lift_after, with_alpha_change}
 use Rattle.h41_rows.specs.Rows.{Appends, Becomes, Lift, LineRow}
 use Rattle.h41_focal.specs.private.Works.{digits_use_row, flag_use_row, highest_of}
-use Rattle.h41_focal.specs.private.Works.{register_use_row}
-use Rattle.h41_focal.specs.private.Works.{row_of_work}
+use Rattle.h41_focal.specs.private.Works.{register_use_row, row_of_work}
 use Rattle.h41_focal.specs.declared.works.FunctionWork.{FunctionWork}
 use Rattle.h41_focal.specs.declared.works.FunctionWork.TheVariants.{Return}
 use Rattle.h41_rows.specs.LineRows.{row_of, text_row, to_label, to_meant, to_name}

@@ -4,8 +4,7 @@ use Rattle.std.specs.Prelude.{◌≡◌, ℕ, ◌+◌, ◌-◌, List, ◌∷◌,
 use Rattle.std.specs.List.{list_any}
 use Rattle.h41_codes.specs.declared.characters.Character.{Character}
 use Rattle.h41_codes.specs.NumberCharacters.{is_point}
-use Rattle.h41_numbers.specs.NumberLines.{biased_by, digits_in, number_from, sign_in}
-use Rattle.h41_numbers.specs.NumberLines.{whole_digits}
+use Rattle.h41_numbers.specs.NumberLines.{biased_by, digits_in, number_from, sign_in, whole_digits}
 
 -- The number of the first digits, after some are already read, with the rest of the text.
 abbrev pub read_number : (most number count : ℕ) → List Character → ℕ

@@ -15,8 +15,7 @@ use Rattle.h41_program.specs.declared.reading.Found.{Found}
 use Rattle.h41_program.specs.declared.refusal.ProgramRefusal.{ProgramRefusal}
 use Rattle.h41_program.specs.declared.refusal.ProgramRefusal.TheVariants.{BrokenProgram}
 use Rattle.h41_program.specs.Edits.{memory_with_answer, before_end, count_before, has_line_at}
-use Rattle.h41_program.specs.Edits.{with_inserted}
-use Rattle.h41_program.specs.Edits.{with_replaced, without_deleted}
+use Rattle.h41_program.specs.Edits.{with_inserted, with_replaced, without_deleted}
 use Rattle.h41_program.specs.private.Packers.{Packs, line_if}
 use Rattle.h41_program.specs.ProgramBytes.{final_position, program_bytes}
 use Rattle.h41_program.specs.FirstLines.{FirstFrom}

@@ -15,8 +15,7 @@ use Rattle.h41_commands.specs.declared.fault.ItemFault.TheVariants as faults
 use Rattle.h41_commands.proofs.ReadFaults.{told, untold}
 use Rattle.h41_commands.proofs.reading.read_block.Goals as goal
 use Rattle.h41_commands.proofs.reading.read_block.Goals.{in-Ok, in-Err+in-Words-1, in-Err+in-Image-1, in-Err+in-Source-1, in-Err+in-Bytes-1}
-use Rattle.h41_commands.proofs.reading.read_block.Goals.{in-Err+in-Text-1}
-use Rattle.h41_commands.proofs.reading.read_block.Goals.{in-Err+in-Nothing-1}
+use Rattle.h41_commands.proofs.reading.read_block.Goals.{in-Err+in-Text-1, in-Err+in-Nothing-1}
 
 pub invariant_of-result-clause-own : goal.invariant_of-result-clause-own
 invariant_of-result-clause-own g c =

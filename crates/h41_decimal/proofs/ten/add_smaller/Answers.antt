@@ -1,9 +1,8 @@
 use Rattle.std.proofs.Common.{◌≡◌, ◌+◌, ◌∙◌, sym, arith}
 use Rattle.std.specs.Prelude.{◌+ℤ◌}
-use Rattle.h41_decimal.specs.Signs.{with_sign}
+use Rattle.h41_decimal.specs.Signs.{with_sign, opposite_of}
 use Rattle.h41_decimal.specs.Units.{size}
 use Rattle.h41_decimal.proofs.Tens.{nearest_along, signs_same, signs_apart, minus_same_sign, size_pos}
-use Rattle.h41_decimal.specs.Signs.{opposite_of}
 use Rattle.h41_decimal.proofs.Signed.{nearest_of, signed-add}
 use Rattle.h41_decimal.proofs.ten.add_smaller.Goals as goal
 

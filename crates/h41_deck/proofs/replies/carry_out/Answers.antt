@@ -1,8 +1,7 @@
 use Rattle.std.proofs.Common.{◌≡◌, ◌≢◌, ℕ, true, refl}
 use Rattle.h41_breakpoints.specs.declared.location.Location.{Location}
 use Rattle.h41_commands.specs.declared.commands.Command.{Command}
-use Rattle.h41_commands.specs.declared.commands.Command.TheVariants.{Break, Call, Key, Reset, Size, Step}
-use Rattle.h41_commands.specs.declared.commands.Command.TheVariants.{Unbreak, Unplug}
+use Rattle.h41_commands.specs.declared.commands.Command.TheVariants.{Break, Call, Key, Reset, Size, Step, Unbreak, Unplug}
 use Rattle.h41_commands.specs.declared.commands.keys.PressedKeys.{PressedKeys}
 use Rattle.h41_deck.specs.Replies.{is_silent}
 use Rattle.h41_deck.proofs.replies.carry_out.Goals as goal

@@ -1,7 +1,6 @@
 use Rattle.std.proofs.Common.{◌≡◌, ap, None, rules, subst, ◌∙◌}
 use Rattle.h41_focal.proofs.RowApplied.{opened_row}
-use Rattle.h41_positions.specs.LabelledMachine.{LabelledMachine, machine_of}
-use Rattle.h41_positions.specs.LabelledMachine.{local_search}
+use Rattle.h41_positions.specs.LabelledMachine.{LabelledMachine, machine_of, local_search}
 use Rattle.h41_focal.specs.private.Arrivals.{from_of}
 use Rattle.h41_focal.specs.private.Carrying.{LineFails}
 use Rattle.h41_positions.specs.FocalState.{Machine, machine_with}

@@ -7,6 +7,7 @@ from decimal import Decimal
 from .lineclaims import ZERO, LoopContract, Term
 from .lineregisters import COUNTS, MOST_REGISTERS, RegisterLine
 from .linepoints import Fact, Point
+from .linereasons import has_increment
 from .linesteps import Walk, value_of
 from .lineterms import term_of
 
@@ -125,6 +126,9 @@ class CounterWalk(Walk):
         value = made.state.register(register)
         parts, whole = self.parts_of(value), self.nat(value)
         if not parts and whole is None:
+            if has_increment(value.text()):
+                raise self.fail(made.at, f"{register} contains {value.text()}, a counter with an increment, which is not supported: count by 1, with "
+                                         "at most three decimals, as in 1.010, and multiply the count")
             raise self.fail(made.at, f"{register} contains {value.text()}, which is not known to be a counter: add `{register} is a whole "
                                      f"number` or `{register} is a counter` to `requires`, and to `invariant` if the line is in a loop")
         self.need_next(made.at)

@@ -13,6 +13,7 @@ from .linecounts import Count
 from .linemoves import moved
 from .linepoints import Call, Fact, Loop, NeedsWholes, PLACES, Point, START, State
 from .lineregisters import COUNTS, INTO, RegisterLine, register_line, registers_in
+from .linereasons import reason_of
 from .lineterms import CALL, CALL_NAMED, GO_TO, GO_TO_NAMED, NUMBER, TEST, ProgramLine, term_of
 
 if TYPE_CHECKING:
@@ -144,7 +145,7 @@ class Walk:
         if BRANCH.match(text) and not any(form.fullmatch(text) for form in (GO_TO, CALL, CALL_NAMED, GO_TO_NAMED)):
             raise self.fail(at, NO_BRANCH)
         if term_of(text, at) is None:
-            raise self.fail(at, "this line is not supported: see the supported lines in docs/PROVE-YOUR-MODULE.md")
+            raise self.fail(at, reason_of(text))
 
     def follow(self, made: Point, text: str) -> None:
         """Adds the points after a point."""

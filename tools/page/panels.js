@@ -19,7 +19,8 @@ const isOpen = (id) => by(id).open;
 const isChanging = () => driver !== null && waits > 0;
 
 function show() {
-  if (!past.length) return;
+  // The sheet that is being printed is measured already.
+  if (!past.length || sheet) return;
   const [state, before] = looked();
   if (!isChanging() || mayChange()) showDisplay(state.display[0]);
   showLights(state);

@@ -129,7 +129,7 @@ function layOutAgain() {
   document.documentElement.classList.remove("printed");
   document.documentElement.dataset.theme = theme;
   document.body.classList.add(...classes);
-  if (past.length && isOpen("memory-panel")) showMemory(...looked());
+  show();
   for (const [one, place] of scrolled) one.scrollTop = place;
 }
 

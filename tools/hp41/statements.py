@@ -71,7 +71,8 @@ use Rattle.h41_reasoning.specs.Runs.{HasWords, Reaches, Takes}
 """
 # What the files about a project name too.
 PROJECT_SPEC_IMPORTS = """\
-use Rattle.h41_reasoning.specs.Names.{chosen_at, with_chosen, First, Second, Third, Fourth}
+use Rattle.h41_reasoning.specs.Names.{chosen_at, with_chosen}
+use Rattle.h41_reasoning.specs.Names.{First, Second, Third, Fourth}
 """
 PROJECT_IMPORTS = f"""\
 {PROJECT_SPEC_IMPORTS}use Rattle.h41_reasoning.proofs.Banks.{{bank_active, bank_again}}

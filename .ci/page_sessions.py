@@ -232,6 +232,11 @@ def last_changes(visit: Visit) -> None:
     browser.run("by('watched').value = 'flag 07'; by('digit').value = ''")
     browser.click("#last-change")
     visit.row("a flag that did not change", told, "No state up to this one changed flag 07")
+    browser.run("by('digit').value = '12'; by('watched').value = 'flag 07'; by('watched').dispatchEvent(new Event('change'))")
+    browser.click("#last-change")
+    visit.row("a flag has no digits", "return [by('digit').disabled, by('refusal').textContent]", [True, "No state up to this one changed flag 07"])
+    browser.run("by('digit').value = ''; by('watched').value = 'X'; by('watched').dispatchEvent(new Event('change'))")
+    visit.row("a register has digits", "return by('digit').disabled", False)
 
 
 def earlier_changes(visit: Visit) -> None:

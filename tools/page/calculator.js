@@ -430,6 +430,7 @@ function begin() {
   drawDisplay();
   const isDriven = restore();
   for (const id of ["page-in", "page-out"]) by(id).append(...[..."456789ABCDEF"].map((page) => make("option", { value: page }, page)));
+  by("watched").addEventListener("change", showDigits);
   by("digit").append(...Array.from({ length: 14 }, (_, at) => make("option", { value: 13 - at }, `digit ${13 - at}`)));
   listenToSettings();
   listenToControls();

@@ -155,9 +155,22 @@ function numberShown(text, flags) {
   return [Number(`${sign}${whole.replaceAll(",", "")}.${part}E${exponent}`), Number(`1E${Number(exponent) - part.length}`)];
 }
 
+/** Returns whether ALPHA mode is on. */
+const isInAlpha = ({ flags: [flags] }) => flags.split(" ").includes("48");
+
+/** Returns whether the display shows the number in X, perhaps rounded, or a number that is being typed: no text, message or program line,
+    even if it has digits. */
+function showsNumber(state) {
+  if (state.program || isInAlpha(state)) return false;
+  const [rounded, unit] = numberShown(state.display[0].replace(/_$/, "").trim(), state.flags[0]);
+  return Math.abs(rounded - Number(state.numbers[3])) < 0.51 * unit;
+}
+
 /** Returns whether an answer spells a number: in any usual way, or as the display writes it. If the display shows this number in fewer
     digits, the answer may be that. */
-function isSameNumber(given, wanted, name, { flags: [flags], display }) {
+function isSameNumber(given, wanted, name, state) {
+  if (name === "display" && !showsNumber(state)) return false;
+  const { flags: [flags], display } = state;
   const plain = plainNumber(given);
   const answers = [/^[-.\d]/.test(plain) && !/^-?0[XBO]/.test(plain) ? Number(plain) : NaN, numberShown(plain, flags)[0]];
   const value = name === "display" || wanted === "" ? numberShown(wanted, flags)[0] : Number(wanted);
@@ -170,19 +183,21 @@ function isSameNumber(given, wanted, name, { flags: [flags], display }) {
 const plainText = (text) => text.toUpperCase().replace(/^ *"(.*)" *$/, "$1").trimEnd();
 
 /** Returns whether an answer names a value in a state: numbers may be written in other ways, digits without the zeros before them and in
-    groups, return addresses without the empty ones after them, what the display shows without the `_` after it, texts without quotes and
-    without the spaces at their end, and an empty text as "". */
+    groups, return addresses without the empty ones after them, a number that is being typed without the `_` after it, texts without quotes
+    and without the spaces at their end, and an empty text as "". */
 function isSame(answer, value, { name, isWord }, state) {
   const [given, wanted] = [answer, value].map((text) => plainText(text.trim()));
-  if (given === wanted || plainText(answer) === plainText(value) || answer.trim() === '""' && value === "empty") return true;
+  if (plainText(answer) === plainText(value) || answer.trim() === '""' && value === "empty") return true;
+  // A text is no number, even if it has digits, and the spaces before it belong to it.
+  if (name === "ALPHA" || name !== "display" && value.startsWith('"')) return false;
+  if (given === wanted) return true;
   if (name === "RTN") return given !== "" && given.split(/[ ,]+/).join(" ").padEnd(wanted.length, " 0000") === wanted;
   if (isWord) {
     const digits = given.replaceAll(" ", "").replace(/^0X(?=.)/, "");
     return /^[0-9A-F]+$/.test(digits) && digits.replace(/^0+(?=.)/, "") === wanted.replace(/^0+(?=.)/, "");
   }
-  // A text is no number, even if it has digits.
-  if (name === "ALPHA" || name !== "display" && value.startsWith('"')) return false;
-  const typed = name === "display" ? wanted.replace(/_$/, "").trim() : wanted;
+  const isTyped = name === "display" && !isInAlpha(state) && /^[-\d., E]+_$/.test(wanted);
+  const typed = isTyped ? wanted.slice(0, -1).trim() : wanted;
   return given !== "" && given === typed || isSameNumber(given, typed, name, state);
 }
 

@@ -48,7 +48,7 @@ function firstInView(box) {
 
 /** Shows those lines of a box that fit into a height, from a row on if there is one, and says how many there are before them and after them. */
 function cut(box, height, row) {
-  const edges = edgesOf(box);
+  const [edges, lines] = [edgesOf(box), linesIn(box)];
   const count = edges.length - 1;
   if (edges[count] <= height + 1) return;
   const start = row ? row.getBoundingClientRect().top - box.getBoundingClientRect().top : 0;
@@ -57,9 +57,11 @@ function cut(box, height, row) {
   let end = first;
   while (end < count && edges[end + 1] - edges[first] <= room()) end += 1;
   while (end === count && first && edges[end] - edges[first - 1] <= room()) first -= 1;
-  const note = (lines, words) => lines ? [make("p", { class: "unprinted" }, `… ${lines} ${words}`)] : [];
-  box.style.setProperty("height", `${edges[end] - edges[first]}px`, "important");
-  if (box.firstElementChild) box.firstElementChild.style.marginTop = `${-edges[first]}px`;
+  const note = (number, words) => number ? [make("p", { class: "unprinted" }, `… ${number} ${words}`)] : [];
+  // The colour behind the line before ends below its text.
+  const top = first ? Math.max(edges[first], lines[first][0] - 2) : 0;
+  box.style.setProperty("height", `${edges[end] - top}px`, "important");
+  if (box.firstElementChild) box.firstElementChild.style.marginTop = `${-top}px`;
   box.before(...note(first, `line${first === 1 ? "" : "s"} before these`));
   box.after(...note(count - end, `more line${count - end === 1 ? "" : "s"}`));
 }

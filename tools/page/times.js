@@ -208,18 +208,27 @@ function watchable(state) {
 /** Fills the list of values whose last change can be looked for. */
 function showWatched() {
   const names = Object.keys(watchable(present()));
-  if (!isNew("watched", names)) return;
-  const chosen = by("watched").value;
-  by("watched").replaceChildren(...names.map((name) => make("option", { value: name }, name)));
-  by("watched").value = names.includes(chosen) ? chosen : "X";
+  if (isNew("watched", names)) {
+    const chosen = by("watched").value;
+    by("watched").replaceChildren(...names.map((name) => make("option", { value: name }, name)));
+    by("watched").value = names.includes(chosen) ? chosen : "X";
+  }
+  showDigits();
 }
+
+/** Returns whether a value that can be watched is a register, one of whose digits can be chosen. */
+const hasDigits = (name) => !/^(flag .*|display|ALPHA|processor (P|Q|PT|CY|MODE|RAM|RTN))$/.test(name);
+
+/** Lets a digit be chosen if the chosen value is a register. */
+const showDigits = () => by("digit").disabled = !hasDigits(by("watched").value);
 
 let changeShown = null;     // the last change that was shown: its session, its value and its state, until another state is shown
 
 /** Goes back to the state that the last change of the chosen value, or of one of its digits, led to: at most the state that is shown. If
     the page has shown this change already, goes back to the change before it. */
 async function goToChange() {
-  const [name, digit] = [by("watched").value, by("digit").value];
+  const name = by("watched").value;
+  const digit = hasDigits(name) ? by("digit").value : "";
   const read = watchable(present())[name];
   const value = (number) => {
     const text = read(stateAt(number)) ?? "";

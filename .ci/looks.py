@@ -66,8 +66,10 @@ def bars(visit: Visit) -> None:
             sized(visit, width, height)
             where = f"{'large with ' + panel if is_large else 'the page'} at {width} by {height}"
             browser.run("by('program').scrollTop = 0; return goTo(() => Infinity)")
+            browser.run(DRAWN)
             tops = browser.run(PANELS)
             browser.run("return goTo((at) => at - 2)")
+            browser.run(DRAWN)
             visit.row(f"what is below the bar, {where}", ABOVE, [True, []])
             row(f"the bar moves nothing, {where}", browser.run(PANELS), tops)
             visit.row(f"the next line above the bar, {where}", NEXT, True)

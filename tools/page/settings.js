@@ -77,16 +77,23 @@ function choosePanel(id) {
   dress();
 }
 
+/** Keeps in view what is next in each panel, after the room for the panels has changed. */
+function revealNext() {
+  if (sheet) return;
+  for (const id of ["program", "listing", "trace", "parts"]) reveal(by(id), by(id).querySelector(".next"));
+}
+
 /** Keeps the height of the bars at the bottom of the window. The panels end above them, and what is next in them stays in view. */
 const measureBars = new ResizeObserver(() => {
   const [style, height] = [document.documentElement.style, `${by("bars").offsetHeight}px`];
   if (sheet || style.getPropertyValue("--bar") === height) return;
   style.setProperty("--bar", height);
-  for (const id of ["program", "listing", "trace", "parts"]) reveal(by(id), by(id).querySelector(".next"));
+  revealNext();
 });
 
 function listenToSettings() {
   measureBars.observe(by("bars"));
+  addEventListener("resize", revealNext);
   fitMap.observe(by("map"));
   for (const id of CHECKS) by(id).addEventListener("change", keep);
   for (const id of CHOICES) by(id).addEventListener("change", keep);

@@ -158,25 +158,32 @@ function numberShown(text, flags) {
 /** Returns whether ALPHA mode is on. */
 const isInAlpha = ({ flags: [flags] }) => flags.split(" ").includes("48");
 
-/** Returns whether the display shows the number in X, perhaps rounded, or a number that is being typed: no text, message or program line,
-    even if it has digits. */
-function showsNumber(state) {
-  if (state.program || isInAlpha(state)) return false;
-  const [rounded, unit] = numberShown(state.display[0].replace(/_$/, "").trim(), state.flags[0]);
-  return Math.abs(rounded - Number(state.numbers[3])) < 0.51 * unit;
+/** Returns whether a text of the display is a number that is being typed. The display shows it with a point, whatever flag 28 is. */
+const isTyping = (text, state) => !isInAlpha(state) && /^([-\d., E]+|(\d{2,3} )?NEG)_$/.test(text);
+
+/** Returns the number that the display shows: that in X, perhaps rounded, or the one that is being typed; NaN if it shows a text, a message
+    or a program line, even if it has digits. The display of X has a point or a comma, and ENG 0 rounds by at most a third. */
+function numberInDisplay({ display: [text], flags: [flags], numbers, program }) {
+  const shownText = text.trim();
+  if (program || isInAlpha({ flags: [flags] })) return NaN;
+  if (shownText.endsWith("_")) return numberShown(shownText.slice(0, -1).trim(), `${flags} 28`)[0];
+  const [number] = /[.,]/.test(shownText) ? numberShown(shownText, flags) : [NaN];
+  const x = Number(numbers[3]);
+  return Math.abs(number - x) <= 0.34 * Math.abs(x) ? number : NaN;
 }
 
 /** Returns whether an answer spells a number: in any usual way, or as the display writes it. If the display shows this number in fewer
     digits, the answer may be that. */
 function isSameNumber(given, wanted, name, state) {
-  if (name === "display" && !showsNumber(state)) return false;
   const { flags: [flags], display } = state;
   const plain = plainNumber(given);
   const answers = [/^[-.\d]/.test(plain) && !/^-?0[XBO]/.test(plain) ? Number(plain) : NaN, numberShown(plain, flags)[0]];
-  const value = name === "display" || wanted === "" ? numberShown(wanted, flags)[0] : Number(wanted);
+  const value = name === "display" ? numberInDisplay(state) : Number(wanted || NaN);
   if (answers.includes(value) && !Number.isNaN(value)) return true;
   const [rounded, unit] = numberShown(display[0].trim(), flags);
-  return name === "X" && answers.includes(rounded) && !Number.isNaN(rounded) && Math.abs(rounded - value) < 0.51 * unit;
+  // Flag 41 is set in ENG. The greatest number is cut and not rounded.
+  const most = flags.split(" ").includes("41") ? 0.34 * Math.abs(value) : unit;
+  return name === "X" && answers.includes(rounded) && !Number.isNaN(rounded) && Math.abs(rounded - value) < most;
 }
 
 /** Returns a text without its quotes, if it has any, and without the spaces at its end, which the display does not show. */
@@ -190,15 +197,14 @@ function isSame(answer, value, { name, isWord }, state) {
   if (plainText(answer) === plainText(value) || answer.trim() === '""' && value === "empty") return true;
   // A text is no number, even if it has digits, and the spaces before it belong to it.
   if (name === "ALPHA" || name !== "display" && value.startsWith('"')) return false;
-  if (given === wanted) return true;
+  if (name !== "display" && given === wanted) return true;
   if (name === "RTN") return given !== "" && given.split(/[ ,]+/).join(" ").padEnd(wanted.length, " 0000") === wanted;
   if (isWord) {
     const digits = given.replaceAll(" ", "").replace(/^0X(?=.)/, "");
     return /^[0-9A-F]+$/.test(digits) && digits.replace(/^0+(?=.)/, "") === wanted.replace(/^0+(?=.)/, "");
   }
-  const isTyped = name === "display" && !isInAlpha(state) && /^[-\d., E]+_$/.test(wanted);
-  const typed = isTyped ? wanted.slice(0, -1).trim() : wanted;
-  return given !== "" && given === typed || isSameNumber(given, typed, name, state);
+  const typed = name === "display" && isTyping(wanted, state) ? wanted.slice(0, -1).trim() : null;
+  return given !== "" && given === typed || isSameNumber(given, wanted, name, state);
 }
 
 /** Executes the step that was asked about, and compares the answer with what the bench shows then. */

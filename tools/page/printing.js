@@ -59,7 +59,7 @@ function cut(box, height, row) {
   while (end === count && first && edges[end] - edges[first - 1] <= room()) first -= 1;
   const note = (number, words) => number ? [make("p", { class: "unprinted" }, `… ${number} ${words}`)] : [];
   // The background of the line before ends below its text.
-  const top = first ? Math.max(edges[first], lines[first][0] - 2) : 0;
+  const top = first ? Math.max(edges[first], lines[first][0] - 1) : 0;
   box.style.setProperty("height", `${edges[end] - top}px`, "important");
   if (box.firstElementChild) box.firstElementChild.style.marginTop = `${-top}px`;
   box.before(...note(first, `line${first === 1 ? "" : "s"} before these`));

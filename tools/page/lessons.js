@@ -142,7 +142,7 @@ function closeQuestion() {
 /** Returns an answer as the functions below read numbers: with a plain minus and no plus, without spaces around its E or between groups of
     three digits, and with an E for a power of ten such as `*10^4`. */
 const plainNumber = (text) => text.replace(/[\u2010-\u2014\u2212]/g, "-").replace(/ *[×·*X] *10 *(?:\^|\*\*) */, "E").replace(/ *E */, "E")
-  .replace(/^\+ *|(?<=E)\+/g, "").replace(/^- +/, "-").replace(/(?<=\d) (?=\d{3}(?!\d))/g, "");
+  .replace(/^(-? *)10 *(?:\^|\*\*) */, (_, sign) => `${sign}1E`).replace(/^\+ *|(?<=E)\+/g, "").replace(/^- +/, "-").replace(/(?<=\d) (?=\d{3}(?!\d))/g, "");
 
 /** Returns the number that a text spells with the separators of the display, which flag 28 chooses, and the place value of its last digit;
     NaN if it spells none. An exponent may follow a space, a minus or an E. */
@@ -161,15 +161,32 @@ const isInAlpha = ({ flags: [flags] }) => flags.split(" ").includes("48");
 /** Returns whether a text of the display is a number that is being typed. The display shows it with a point, whatever flag 28 is. */
 const isTyping = (text, state) => !isInAlpha(state) && /^([-\d., E]+|(\d{2,3} )?NEG)_$/.test(text);
 
+/** Returns whether the display shows numbers with a point or a comma. Only FIX 0 without flag 29 has none; flags 36 to 39 are its digits. */
+function hasPointInDisplay(flags) {
+  const set = flags.split(" ");
+  return !set.includes("40") || ["29", "36", "37", "38", "39"].some((flag) => set.includes(flag));
+}
+
+/** Returns more than the display rounds a number by: one of the last digit that it shows. In ENG this digit is one of the mantissa, and zeros
+    may follow it; flags 36 to 39 are how many follow the first one, and the display shows at most eight digits. The greatest number is cut and
+    not rounded. */
+function mostRounded(x, unit, flags) {
+  const set = flags.split(" ");
+  if (!set.includes("41") || x === 0) return unit;
+  const digits = ["36", "37", "38", "39"].reduce((sum, flag) => 2 * sum + Number(set.includes(flag)), 0);
+  return 10 ** (Math.floor(Math.log10(Math.abs(x))) - Math.min(digits, 7));
+}
+
 /** Returns the number that the display shows: that in X, perhaps rounded, or the one that is being typed; NaN if it shows a text, a message
-    or a program line, even if it has digits. The display of X has a point or a comma, and ENG 0 rounds by at most a third. */
+    or a program line, even if it has digits. */
 function numberInDisplay({ display: [text], flags: [flags], numbers, program }) {
   const shownText = text.trim();
   if (program || isInAlpha({ flags: [flags] })) return NaN;
   if (shownText.endsWith("_")) return numberShown(shownText.slice(0, -1).trim(), `${flags} 28`)[0];
-  const [number] = /[.,]/.test(shownText) ? numberShown(shownText, flags) : [NaN];
+  const isNumber = /[.,]/.test(shownText) || !hasPointInDisplay(flags);
+  const [number, unit] = isNumber ? numberShown(shownText, flags) : [NaN, 0];
   const x = Number(numbers[3]);
-  return Math.abs(number - x) <= 0.34 * Math.abs(x) ? number : NaN;
+  return number === x || Math.abs(number - x) < mostRounded(x, unit, flags) ? number : NaN;
 }
 
 /** Returns whether an answer spells a number: in any usual way, or as the display writes it. If the display shows this number in fewer
@@ -180,10 +197,9 @@ function isSameNumber(given, wanted, name, state) {
   const answers = [/^[-.\d]/.test(plain) && !/^-?0[XBO]/.test(plain) ? Number(plain) : NaN, numberShown(plain, flags)[0]];
   const value = name === "display" ? numberInDisplay(state) : Number(wanted || NaN);
   if (answers.includes(value) && !Number.isNaN(value)) return true;
+  if (name !== "X" || Number.isNaN(numberInDisplay(state))) return false;
   const [rounded, unit] = numberShown(display[0].trim(), flags);
-  // Flag 41 is set in ENG. The greatest number is cut and not rounded.
-  const most = flags.split(" ").includes("41") ? 0.34 * Math.abs(value) : unit;
-  return name === "X" && answers.includes(rounded) && !Number.isNaN(rounded) && Math.abs(rounded - value) < most;
+  return answers.includes(rounded) && !Number.isNaN(rounded) && Math.abs(rounded - value) < mostRounded(value, unit, flags);
 }
 
 /** Returns a text without its quotes, if it has any, and without the spaces at its end, which the display does not show. */
@@ -194,10 +210,13 @@ const plainText = (text) => text.toUpperCase().replace(/^ *"(.*)" *$/, "$1").tri
     and without the spaces at their end, and an empty text as "". */
 function isSame(answer, value, { name, isWord }, state) {
   const [given, wanted] = [answer, value].map((text) => plainText(text.trim()));
+  const mayBeText = name === "ALPHA" || name === "display" || value.startsWith('"');
+  if (!mayBeText && /^ *".*" *$/.test(answer)) return false;
   if (plainText(answer) === plainText(value) || answer.trim() === '""' && value === "empty") return true;
   // A text is no number, even if it has digits, and the spaces before it belong to it.
   if (name === "ALPHA" || name !== "display" && value.startsWith('"')) return false;
-  if (name !== "display" && given === wanted) return true;
+  // A register that is neither a number nor a text is shown by its 14 digits, after "=" except in the display.
+  if (name !== "display" && [wanted, wanted.replace(/^=/, "")].includes(given)) return true;
   if (name === "RTN") return given !== "" && given.split(/[ ,]+/).join(" ").padEnd(wanted.length, " 0000") === wanted;
   if (isWord) {
     const digits = given.replaceAll(" ", "").replace(/^0X(?=.)/, "");

@@ -231,8 +231,9 @@ async function goToChange() {
   const digit = hasDigits(name) ? by("digit").value : "";
   const read = watchable(present())[name];
   const value = (number) => {
-    const text = read(stateAt(number)) ?? "";
-    return digit === "" ? text : text[text.length - 1 - Number(digit)];
+    const text = read(stateAt(number));
+    if (text === undefined) return "no such register";
+    return digit === "" ? text || "empty" : text[text.length - 1 - Number(digit)];
   };
   const what = digit === "" ? name : `digit ${digit} of ${name}`;
   const at = shown ?? lastNumber();

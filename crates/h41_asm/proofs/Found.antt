@@ -7,10 +7,6 @@ pub or_none : {T : Type 0} (first second : Option T) → option_or first second 
 or_none None second none = (refl, none)
 or_none (Some found) second none = let no : Some found ≡ None = none in cc
 
-pub or_nothing : {T : Type 0} (found : Option T) → option_or found None ≡ found
-or_nothing None = refl
-or_nothing (Some found) = refl
-
 pub not_then_some : {T : Type 0} (test : Bool) (found : T) → then_some test found ≡ None → test ≡ false
 not_then_some true found none = let no : Some found ≡ None = none in cc
 not_then_some false found none = refl

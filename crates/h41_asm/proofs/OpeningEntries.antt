@@ -1,25 +1,23 @@
 -- The code's table of first words is right: each entry is, and the first word of every mnemonic is in its place.
 use Rattle.std.proofs.Common.{◌≡◌, ℕ, ◌<◌, Bool, true, List, [], ◌∷◌, length, Some, refl}
-use Rattle.std.specs.Prelude.{codes, map, nat_lt}
+use Rattle.std.specs.Prelude.{codes, drop, map, nat_lt, ◌++◌}
 use Rattle.std.proofs.lemmas.Bool.{and_parts, ltb-true}
 use Rattle.std.specs.List.{AllByRecursion, list_all}
 use Rattle.std.proofs.lemmas.List.Elements.{All-from_recursion}
 use Rattle.h41_words.specs.declared.operation.Operation.{Operation}
-use Rattle.h41_words.specs.declared.operation.Operation.TheVariants.{AToB, AddAToC, AddBToA, AddCToA, BToC, CToA, ClearA, ClearB, ClearC}
-use Rattle.h41_words.specs.declared.operation.Operation.TheVariants.{ComplementC, DecrementA, DecrementC, DoubleC, ExchangeAB, ExchangeAC}
-use Rattle.h41_words.specs.declared.operation.Operation.TheVariants.{ExchangeBC, IncrementA, IncrementC, NegateC, ShiftLeftA, ShiftRightA}
-use Rattle.h41_words.specs.declared.operation.Operation.TheVariants.{ShiftRightB, ShiftRightC, SubtractBFromA, SubtractCFromA}
-use Rattle.h41_words.specs.declared.operation.Operation.TheVariants.{SubtractCFromAToC, TestADiffersFromC, TestALessThanB, TestALessThanC}
-use Rattle.h41_words.specs.declared.operation.Operation.TheVariants.{TestANonzero, TestBNonzero, TestCNonzero}
+use Rattle.h41_words.specs.declared.operation.Operation.TheVariants.{ClearA}
+use Rattle.h41_words.specs.declared.rows.Condition.TheVariants.{Carry, NoCarry}
 use Rattle.h41_words.specs.declared.rows.Bank.TheVariants.{First, Second, Third, Fourth}
 use Rattle.h41_words.specs.declared.rows.RegisterTransfer.{RegisterTransfer}
 use Rattle.h41_words.specs.declared.rows.RegisterTransfer.TheVariants.{CToG, CToM, CToN, CToStatus, ExchangeCG, ExchangeCM, ExchangeCN}
 use Rattle.h41_words.specs.declared.rows.RegisterTransfer.TheVariants.{ExchangeCStatus, ExchangeStatusT, GToC, MToC, NToC, StatusToC}
 use Rattle.h41_words.specs.declared.rows.RegisterTransfer.TheVariants.{StatusToT, TToStatus}
 use Rattle.h41_words.specs.declared.rows.Row.TheVariants.{ClearKeyFlag, ClearRegisters, ClearStatusByte, DecrementPointer, DisplayOff}
-use Rattle.h41_words.specs.declared.rows.Row.TheVariants.{DropReturn, EnableBank, IncrementPointer, Nop, PowerOff, ReadKey, Return}
+use Rattle.h41_words.specs.declared.rows.Row.TheVariants.{DropReturn, EnableBank, FetchWord, IncrementPointer, Nop, PopAddress}
+use Rattle.h41_words.specs.declared.rows.Row.TheVariants.{PowerOff, PushAddress, ReadKey, Return, SelectPeripheral, SelectRegister}
 use Rattle.h41_words.specs.declared.rows.Row.TheVariants.{SetDecimal, SetHexadecimal, TestKeyFlag, TestLowBattery, TestPointersEqual}
 use Rattle.h41_words.specs.declared.rows.Row.TheVariants.{ToggleDisplay, Transfer, WriteRom}
+use Rattle.h41_words.specs.Listing.{operations}
 use Rattle.h41_words.specs.Mnemonics.{operation_text, transfer_text}
 use Rattle.h41_words.specs.Counts.{word_count}
 use Rattle.h41_words.specs.WordTable.{number_of}
@@ -29,14 +27,19 @@ use Rattle.h41_asm.specs.declared.table.Taking.TheVariants.{Field}
 use Rattle.h41_asm.specs.declared.table.TheConstants.{OPENINGS, PLACES}
 use Rattle.h41_asm.specs.Statements.{singles, takers}
 use Rattle.h41_asm.specs.private.Openings.{TableEntry, IsTable, OpensAs, TellsWords}
-use Rattle.h41_asm.proofs.OpeningTable.{carry_sound, fetch_sound, goto_sound, logic_sound, no_carry_sound, peripheral_sound, pop_sound}
-use Rattle.h41_asm.proofs.OpeningTable.{push_sound, ram_sound, read_sound, select_sound, single, write_sound}
+use Rattle.h41_asm.proofs.OpeningTable.{condition_reads, goto_sound, logic_sound, pair_reads, read_sound, select_sound, single, write_sound}
 use Rattle.h41_asm.proofs.Openings.{begins_nothing}
 
 field_sound : (operation : Operation) → OpensAs (operation_text operation) (Some (Taker (Field operation)))
 unfolding singles takers
 field_sound ClearA others = refl
 field_sound operation others = refl
+
+-- The entries of operations on a field, before others.
+fields_sound : (some : List Operation) (others : List TableEntry) → AllByRecursion (λ entry. OpensAs entry.0 (Some entry.1)) others
+    → AllByRecursion (λ entry. OpensAs entry.0 (Some entry.1)) (map (λ o. (operation_text o, Taker (Field o))) some ++ others)
+fields_sound [] others sound = sound
+fields_sound (operation ∷ some) others sound = (field_sound operation, fields_sound some others sound)
 
 transfer_sound : (transfer : RegisterTransfer) → OpensAs (transfer_text transfer) (Some (Single (number_of (Transfer transfer))))
 unfolding singles takers
@@ -94,51 +97,23 @@ entries_sound =
     & single (codes "SETDEC") SetDecimal 0x2A0 (λ others. refl) (λ others. refl) (λ others. refl) refl
     & single (codes "DISOFF") DisplayOff 0x2E0 (λ others. refl) (λ others. refl) (λ others. refl) refl
     & single (codes "DISTOG") ToggleDisplay 0x320 (λ others. refl) (λ others. refl) (λ others. refl) refl
-    & carry_sound
-    & no_carry_sound
+    & condition_reads Carry (codes "?C") (codes "?C RTN") (codes "?C XQ") (codes "?C GO") refl
+    (λ second others. (refl, refl, refl, refl, refl))
+    & condition_reads NoCarry (codes "?NC") (codes "?NC RTN") (codes "?NC XQ") (codes "?NC GO") refl
+    (λ second others. (refl, refl, refl, refl, refl))
     & single (codes "RTN") Return 0x3E0 (λ others. refl) (λ others. refl) (λ others. refl) refl
     & transfer_sound CToN
     & transfer_sound NToC
     & transfer_sound ExchangeCN
-    & push_sound
-    & pop_sound
-    & ram_sound
+    & pair_reads (codes "PUSH") (codes "ADR") (codes "PUSH ADR") PushAddress refl (λ second others. (refl, refl, refl))
+    & pair_reads (codes "POP") (codes "ADR") (codes "POP ADR") PopAddress refl (λ second others. (refl, refl, refl))
+    & pair_reads (codes "RAM") (codes "SLCT") (codes "RAM SLCT") SelectRegister refl (λ second others. (refl, refl, refl))
     & write_sound
-    & fetch_sound
+    & pair_reads (codes "FETCH") (codes "S&X") (codes "FETCH S&X") FetchWord refl (λ second others. (refl, refl, refl))
     & logic_sound
-    & peripheral_sound
-    & field_sound ClearA
-    & field_sound ClearB
-    & field_sound ClearC
-    & field_sound ExchangeAB
-    & field_sound AToB
-    & field_sound ExchangeAC
-    & field_sound BToC
-    & field_sound ExchangeBC
-    & field_sound CToA
-    & field_sound AddBToA
-    & field_sound AddCToA
-    & field_sound IncrementA
-    & field_sound SubtractBFromA
-    & field_sound DecrementA
-    & field_sound SubtractCFromA
-    & field_sound DoubleC
-    & field_sound AddAToC
-    & field_sound IncrementC
-    & field_sound SubtractCFromAToC
-    & field_sound DecrementC
-    & field_sound NegateC
-    & field_sound ComplementC
-    & field_sound TestBNonzero
-    & field_sound TestCNonzero
-    & field_sound TestALessThanC
-    & field_sound TestALessThanB
-    & field_sound TestANonzero
-    & field_sound TestADiffersFromC
-    & field_sound ShiftRightA
-    & field_sound ShiftRightB
-    & field_sound ShiftRightC
-    & field_sound ShiftLeftA
+    & pair_reads (codes "PRPH") (codes "SLCT") (codes "PRPH SLCT") SelectPeripheral refl (λ second others. (refl, refl, refl))
+    & fields_sound operations (drop 81 entries) (
+    (λ others. refl)
     & (λ others. refl)
     & (λ others. refl)
     & (λ others. refl)
@@ -152,8 +127,7 @@ entries_sound =
     & (λ others. refl)
     & (λ others. refl)
     & (λ others. refl)
-    & (λ others. refl)
-    & tt
+    & tt)
 
 -- Whether the words of an entry are numbers of words.
 abbrev tells : Opening → Bool

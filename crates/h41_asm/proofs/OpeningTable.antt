@@ -5,21 +5,20 @@ use Rattle.std.specs.Prelude.{codes, cond, ◌&&◌, ◌||◌, ◌==◌, Option,
 use Rattle.std.proofs.Math.Dec.{eqb-suc-zero}
 use Rattle.std.proofs.lemmas.Bool.{cases_Bool}
 use Rattle.std.proofs.lemmas.Slice.Eq.{bytes_eq-Decides}
-use Rattle.h41_words.specs.declared.rows.Condition.TheVariants.{NoCarry, Carry}
+use Rattle.h41_words.specs.declared.rows.Condition.{Condition}
 use Rattle.h41_words.specs.declared.second_word.LongJumpKind.TheVariants.{Execute, Go}
 use Rattle.h41_fields.specs.declared.field.Pointer.TheVariants.{P, Q}
 use Rattle.h41_words.specs.declared.rows.Row.{Row}
-use Rattle.h41_words.specs.declared.rows.Row.TheVariants.{And, FetchWord, GoToAddress, GoToKey, Or, PopAddress, PushAddress, ReadData}
-use Rattle.h41_words.specs.declared.rows.Row.TheVariants.{ReturnIf, SelectPeripheral, SelectPointer, SelectRegister, WriteData}
+use Rattle.h41_words.specs.declared.rows.Row.TheVariants.{And, GoToAddress, GoToKey, Or, ReadData, ReturnIf, SelectPointer, WriteData}
 use Rattle.h41_words.specs.WordTable.{number_of}
 use Rattle.h41_asm.specs.declared.fault.SourceFault.{SourceFault}
 use Rattle.h41_asm.specs.declared.fault.SourceFault.TheVariants.{BadLine, BadOperand}
-use Rattle.h41_asm.specs.declared.table.Opening.TheVariants.{Data, Fetch, GoTo, If, Logic, Peripheral, Pop, Push, Ram, Select, Single}
+use Rattle.h41_asm.specs.declared.table.Opening.TheVariants.{Data, GoTo, If, Logic, Select, Single}
 use Rattle.h41_asm.specs.declared.table.Numbered.TheVariants as numbers
 use Rattle.h41_asm.specs.private.CodeStatements.{takes_numbered}
 use Rattle.h41_asm.specs.Statements.{Statement, Taking, Words, words_behind, is_begun, one_word, reading_of, single_among, singles}
 use Rattle.h41_asm.specs.Statements.{statement_by, taken_among, takers, takes_address}
-use Rattle.h41_asm.specs.private.Openings.{OpensAs, without_operand, at_carry, pair}
+use Rattle.h41_asm.specs.private.Openings.{OpensAs, at_carry, by_second, pair, without_operand}
 
 -- The meaning of words by the mnemonic without operand that they are, by the mnemonic with which they begin, and by whether they begin with
 -- one without operand.
@@ -80,43 +79,15 @@ is_pair first second_name name row = (second : List ℕ) (others : List (List �
     × (taken_among takers (first ∷ second ∷ others) ≡ None)
     × (is_begun singles (first ∷ second ∷ others) ≡ ((bytes_eq second second_name && true) || false))
 
-pair_reads : (first second_name name : List ℕ) (row : Row) → is_pair first second_name name row → (second : List ℕ) (others : List (List ℕ))
-    → reading_of (first ∷ second ∷ others) ≡ pair second_name (number_of row) second others
-pair_reads first second_name name row facts second others =
+pub pair_reads : (first second_name name : List ℕ) (row : Row) → reading_of (first ∷ []) ≡ Err BadLine
+    → is_pair first second_name name row → (others : List (List ℕ))
+    → reading_of (first ∷ others) ≡ by_second (pair second_name (number_of row)) others
+pair_reads first second_name name row none facts [] = none
+pair_reads first second_name name row none facts (second ∷ others) =
     let given = facts second others in
     answered first (second ∷ others) _ _ _ given.0 given.1 given.2 ∙ pair_answer (bytes_eq second second_name) (length others == 0) name row
     ∙ ap (λ (said : Result Statement SourceFault). if bytes_eq second second_name then said else Err BadLine)
     (alone_is (number_of row) others)
-
-pub push_sound : OpensAs (codes "PUSH") (Some Push)
-unfolding singles takers
-push_sound [] = refl
-push_sound (second ∷ others) =
-    pair_reads (codes "PUSH") (codes "ADR") (codes "PUSH ADR") PushAddress (λ second others. (refl, refl, refl)) second others
-
-pub pop_sound : OpensAs (codes "POP") (Some Pop)
-unfolding singles takers
-pop_sound [] = refl
-pop_sound (second ∷ others) =
-    pair_reads (codes "POP") (codes "ADR") (codes "POP ADR") PopAddress (λ second others. (refl, refl, refl)) second others
-
-pub ram_sound : OpensAs (codes "RAM") (Some Ram)
-unfolding singles takers
-ram_sound [] = refl
-ram_sound (second ∷ others) =
-    pair_reads (codes "RAM") (codes "SLCT") (codes "RAM SLCT") SelectRegister (λ second others. (refl, refl, refl)) second others
-
-pub peripheral_sound : OpensAs (codes "PRPH") (Some Peripheral)
-unfolding singles takers
-peripheral_sound [] = refl
-peripheral_sound (second ∷ others) =
-    pair_reads (codes "PRPH") (codes "SLCT") (codes "PRPH SLCT") SelectPeripheral (λ second others. (refl, refl, refl)) second others
-
-pub fetch_sound : OpensAs (codes "FETCH") (Some Fetch)
-unfolding singles takers
-fetch_sound [] = refl
-fetch_sound (second ∷ others) =
-    pair_reads (codes "FETCH") (codes "S&X") (codes "FETCH S&X") FetchWord (λ second others. (refl, refl, refl)) second others
 
 -- One of two instructions of two words.
 either_answer : (same next none : Bool) (name next_name : List ℕ) (row next_row : Row)
@@ -124,12 +95,9 @@ either_answer : (same next none : Bool) (name next_name : List ℕ) (row next_ro
     None ((same && true) || ((next && true) || false))
     ≡ (if same then alone_if (number_of row) none else (if next then alone_if (number_of next_row) none else Err BadLine))
 either_answer true true true name next_name row next_row = refl
-either_answer true true false name next_name row next_row = refl
 either_answer true false true name next_name row next_row = refl
-either_answer true false false name next_name row next_row = refl
 either_answer false true true name next_name row next_row = refl
-either_answer false true false name next_name row next_row = refl
-either_answer false false none name next_name row next_row = refl
+either_answer same next none name next_name row next_row = refl
 
 abbrev both_alone : Bool → Bool → Result Statement SourceFault → Result Statement SourceFault → Result Statement SourceFault
 both_alone same next said next_said = if same then said else (if next then next_said else Err BadLine)
@@ -172,9 +140,8 @@ logic_none : (same next : Bool) (name next_name : List ℕ) (row next_row : Row)
     None ((same && false) || ((next && false) || false))
     ≡ both_alone same next (Err BadLine) (Err BadLine)
 logic_none true true name next_name row next_row = refl
-logic_none true false name next_name row next_row = refl
 logic_none false true name next_name row next_row = refl
-logic_none false false name next_name row next_row = refl
+logic_none same next name next_name row next_row = refl
 
 abbrev with_a : Bool → Result Statement SourceFault → Result Statement SourceFault
 with_a a said = if a then said else Err BadLine
@@ -184,16 +151,9 @@ logic_answer : (same next a none : Bool) (name next_name : List ℕ) (row next_r
     None ((same && (a && true)) || ((next && (a && true)) || false))
     ≡ both_alone same next (with_a a (alone_if (number_of row) none)) (with_a a (alone_if (number_of next_row) none))
 logic_answer true true true true name next_name row next_row = refl
-logic_answer true true true false name next_name row next_row = refl
 logic_answer true false true true name next_name row next_row = refl
-logic_answer true false true false name next_name row next_row = refl
 logic_answer false true true true name next_name row next_row = refl
-logic_answer false true true false name next_name row next_row = refl
-logic_answer false false true none name next_name row next_row = refl
-logic_answer true true false none name next_name row next_row = refl
-logic_answer true false false none name next_name row next_row = refl
-logic_answer false true false none name next_name row next_row = refl
-logic_answer false false false none name next_name row next_row = refl
+logic_answer same next a none name next_name row next_row = refl
 
 logic_alone : (same next a : Bool) (number next_number : ℕ) (others : List (List ℕ))
     → both_alone same next (with_a a (alone_if number (length others == 0))) (with_a a (alone_if next_number (length others == 0)))
@@ -260,72 +220,34 @@ jump_answer true go says name next_name takes next = refl
 jump_answer false true says name next_name takes next = refl
 jump_answer false false says name next_name takes next = refl
 
-carry_returns : (others : List (List ℕ)) → reading_of (codes "?C" ∷ codes "RTN" ∷ others) ≡ at_carry Carry (codes "RTN") others
-unfolding singles takers
-carry_returns others =
-    answered (codes "?C") (codes "RTN" ∷ others)
-    (row_of (if_found (length others == 0) (codes "?C RTN") (ReturnIf Carry) None)) None true refl refl refl
-    ∙ single_answer (length others == 0) (codes "?C RTN") (ReturnIf Carry) ∙ alone_is (number_of (ReturnIf Carry)) others
+abbrev is_condition : Condition → List ℕ → List ℕ → List ℕ → List ℕ → Type 0
+is_condition condition first returns calls goes = (second : List ℕ) (others : List (List ℕ))
+    → (single_among singles (first ∷ second ∷ others)
+    ≡ row_of (if_found ((bytes_eq second (codes "RTN") && true) && (length others == 0)) returns (ReturnIf condition) None))
+    × (taken_among takers (first ∷ second ∷ others)
+    ≡ option_map (λ taker. statement_by taker.1 (words_behind taker.0 (first ∷ second ∷ others)))
+    (if_found (bytes_eq second (codes "XQ") && true) calls (takes_address condition Execute)
+    (if_found (bytes_eq second (codes "GO") && true) goes (takes_address condition Go) None)))
+    × (is_begun singles (first ∷ second ∷ others) ≡ ((bytes_eq second (codes "RTN") && true) || false))
+    × (words_behind calls (first ∷ second ∷ others) ≡ others)
+    × (words_behind goes (first ∷ second ∷ others) ≡ others)
 
-carry_jumps : (second : List ℕ) (others : List (List ℕ)) → bytes_eq second (codes "RTN") ≡ false
-    → reading_of (codes "?C" ∷ second ∷ others) ≡ at_carry Carry second others
-unfolding singles takers
-carry_jumps second others other =
-    let x : Bool = bytes_eq second (codes "XQ") in
-    let g : Bool = bytes_eq second (codes "GO") in
-    let says : List ℕ × Taking → Result Statement SourceFault =
-    λ taker. statement_by taker.1 (words_behind taker.0 (codes "?C" ∷ second ∷ others)) in
-    answered (codes "?C") (second ∷ others) None (option_map says (if_found (x && true) (codes "?C XQ")
-    (takes_address Carry Execute) (if_found (g && true) (codes "?C GO") (takes_address Carry Go) None)))
-    false
-    (ap (λ (b : Bool). row_of (if_found ((b && true) && (length others == 0)) (codes "?C RTN") (ReturnIf Carry) None)) other) refl
-    (ap (λ (b : Bool). (b && true) || false) other)
-    ∙ jump_answer x g says (codes "?C XQ") (codes "?C GO") (takes_address Carry Execute) (takes_address Carry Go)
-    ∙ ap (λ (b : Bool). if b then without_operand (number_of (ReturnIf Carry)) others
-    else both_alone x g (statement_by (takes_address Carry Execute) others) (statement_by (takes_address Carry Go) others))
-    (sym other)
-
-pub carry_sound : OpensAs (codes "?C") (Some (If Carry))
-unfolding singles takers
-carry_sound [] = refl
-carry_sound (second ∷ others) = elim (cases_Bool (bytes_eq second (codes "RTN"))) [
+pub condition_reads : (condition : Condition) (first returns calls goes : List ℕ) → reading_of (first ∷ []) ≡ Err BadLine
+    → is_condition condition first returns calls goes → OpensAs first (Some (If condition))
+condition_reads condition first returns calls goes none facts [] = none
+condition_reads condition first returns calls goes none facts (second ∷ others) = elim (cases_Bool (bytes_eq second (codes "RTN"))) [
   | inl same ↦
       let word : second ≡ codes "RTN" = (bytes_eq-Decides second (codes "RTN")).0 same in
-      subst (λ (w : List ℕ). reading_of (codes "?C" ∷ w ∷ others) ≡ at_carry Carry w others) (sym word) (carry_returns others)
-  | inr other ↦ carry_jumps second others other
-]
-
-no_carry_returns : (others : List (List ℕ)) → reading_of (codes "?NC" ∷ codes "RTN" ∷ others) ≡ at_carry NoCarry (codes "RTN") others
-unfolding singles takers
-no_carry_returns others =
-    answered (codes "?NC") (codes "RTN" ∷ others)
-    (row_of (if_found (length others == 0) (codes "?NC RTN") (ReturnIf NoCarry) None)) None true refl refl refl
-    ∙ single_answer (length others == 0) (codes "?NC RTN") (ReturnIf NoCarry) ∙ alone_is (number_of (ReturnIf NoCarry)) others
-
-no_carry_jumps : (second : List ℕ) (others : List (List ℕ)) → bytes_eq second (codes "RTN") ≡ false
-    → reading_of (codes "?NC" ∷ second ∷ others) ≡ at_carry NoCarry second others
-unfolding singles takers
-no_carry_jumps second others other =
-    let x : Bool = bytes_eq second (codes "XQ") in
-    let g : Bool = bytes_eq second (codes "GO") in
-    let says : List ℕ × Taking → Result Statement SourceFault =
-    λ taker. statement_by taker.1 (words_behind taker.0 (codes "?NC" ∷ second ∷ others)) in
-    answered (codes "?NC") (second ∷ others) None (option_map says (if_found (x && true) (codes "?NC XQ")
-    (takes_address NoCarry Execute) (if_found (g && true) (codes "?NC GO") (takes_address NoCarry Go) None)))
-    false
-    (ap (λ (b : Bool). row_of (if_found ((b && true) && (length others == 0)) (codes "?NC RTN") (ReturnIf NoCarry) None)) other) refl
-    (ap (λ (b : Bool). (b && true) || false) other)
-    ∙ jump_answer x g says (codes "?NC XQ") (codes "?NC GO") (takes_address NoCarry Execute) (takes_address NoCarry Go)
-    ∙ ap (λ (b : Bool). if b then without_operand (number_of (ReturnIf NoCarry)) others
-    else both_alone x g (statement_by (takes_address NoCarry Execute) others) (statement_by (takes_address NoCarry Go) others))
-    (sym other)
-
-pub no_carry_sound : OpensAs (codes "?NC") (Some (If NoCarry))
-unfolding singles takers
-no_carry_sound [] = refl
-no_carry_sound (second ∷ others) = elim (cases_Bool (bytes_eq second (codes "RTN"))) [
-  | inl same ↦
-      let word : second ≡ codes "RTN" = (bytes_eq-Decides second (codes "RTN")).0 same in
-      subst (λ (w : List ℕ). reading_of (codes "?NC" ∷ w ∷ others) ≡ at_carry NoCarry w others) (sym word) (no_carry_returns others)
-  | inr other ↦ no_carry_jumps second others other
+      let given = facts (codes "RTN") others in
+      subst (λ (w : List ℕ). reading_of (first ∷ w ∷ others) ≡ at_carry condition w others) (sym word)
+      (answered first (codes "RTN" ∷ others) _ _ _ given.0 given.1 given.2
+      ∙ single_answer (length others == 0) returns (ReturnIf condition) ∙ alone_is (number_of (ReturnIf condition)) others)
+  | inr other ↦
+      let given = facts second others in
+      let says : List ℕ × Taking → Result Statement SourceFault =
+      λ taker. statement_by taker.1 (words_behind taker.0 (first ∷ second ∷ others)) in
+      answered first (second ∷ others) None _ false (rw other at given.0) given.1 (rw other at given.2)
+      ∙ jump_answer (bytes_eq second (codes "XQ")) (bytes_eq second (codes "GO")) says calls goes
+      (takes_address condition Execute) (takes_address condition Go)
+      ∙ rw (given.3, given.4, other) refl
 ]

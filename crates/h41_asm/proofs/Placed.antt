@@ -18,7 +18,7 @@ use Rattle.h41_asm.specs.Placing.{Labels}
 use Rattle.h41_asm.specs.private.LabelTable.{is_held, with_label}
 use Rattle.h41_asm.specs.SourceLines.{SourceLine}
 use Rattle.h41_asm.specs.Statements.{reading_of}
-use Rattle.h41_asm.proofs.Found.{both_false, not_then_some, or_none, or_nothing, unfound}
+use Rattle.h41_asm.proofs.Found.{both_false, not_then_some, or_none, unfound}
 use Rattle.h41_asm.proofs.Walks.{address_from, addresses_of, own_faults, own_faults_of}
 
 -- The lines before some others are placed: they have no errors, their labels have addresses, and with the labels of the lines that are left
@@ -111,8 +111,3 @@ placed_next labels after all origin number address line rest placed none added =
           line.label (not_then_some _ LabelTwice new.0) name
           ∙ placed.addresses name;
     }
-
--- If no lines are left, the addresses are those of all lines.
-pub placed_all : (labels : Labels) (all : List SourceLine) (origin number address : ℕ) → IsPlaced labels all origin number address []
-    → (name : List ℕ) → labels name ≡ label_address (numbered_lines origin all) name
-placed_all labels all origin number address placed name = sym (or_nothing (labels name)) ∙ placed.addresses name

@@ -9,7 +9,7 @@ use Rattle.h41_ends.specs.declared.input_lines.InputLines.{InputLines}
 use Rattle.h41_ends.proofs.InputReading.{reads_both}
 use Rattle.h41_commands.specs.private.BlockReading.{ReadsBlock}
 use Rattle.h41_commands.specs.Blocks.{block_values}
-use Rattle.h41_commands.specs.Commands.{and_then, command_of, is_opening, kind_of, kind_of_word, opening_command, plain_of_word, read_plain}
+use Rattle.h41_commands.specs.Commands.{and_then, command_of, is_opening, kind_of, kind_of_word, plain_of_word, read_plain}
 use Rattle.h41_commands.specs.DeckLines.{is_long, is_skipped, longest_line}
 use Rattle.h41_commands.specs.private.Entries.{what_is_spelled}
 use Rattle.h41_commands.specs.Faults.{of_line}
@@ -93,13 +93,6 @@ opening_words (name ∷ operands) kind e =
     let word : first_word name ≡ Opening kind = cc in
     ap is_some (opening_by kind (kind_of_word name) (plain_of_word name) word)
 
-opening_read : (words : List (List ℕ)) (kind : BlockKind) → kind_by_words words ≡ Some (Named (Opening kind))
-    → command_of words ≡ opening_command kind (drop 1 words)
-opening_read [] kind e = cc
-opening_read (name ∷ operands) kind e =
-    let word : first_word name ≡ Opening kind = cc in
-    rw (opening_by kind (kind_of_word name) (plain_of_word name) word) refl
-
 plain_words : (words : List (List ℕ)) (kind : PlainKind) → kind_by_words words ≡ Some (Named (Plain kind))
     → (is_opening words ≡ false) × (command_of words ≡ read_plain kind (drop 1 words))
 plain_words [] kind e = cc
@@ -115,24 +108,6 @@ unknown_words (name ∷ operands) e =
     let word : first_word name ≡ Unknown = cc in
     let own = unknown_by (kind_of_word name) (plain_of_word name) word in
     (ap is_some own.0, rw (own.0, own.1) refl)
-
--- What a line that opens no block specifies.
-pub long_spelled : (line : List ℕ) → line_kind line ≡ Some Long → line_spelled line ≡ Err LineTooLong
-long_spelled line e = elim (says line Long e) [
-  | inl long ↦ cond-true (is_long line) _ _ long.0
-  | inr short ↦ never (words_of line) short.2
-]
-  where
-    never : (words : List (List ℕ)) → kind_by_words words ≡ Some Long → line_spelled line ≡ Err LineTooLong
-    never [] e = cc
-    never (name ∷ operands) e = cc
-
-pub unknown_spelled : (line : List ℕ) → line_kind line ≡ Some (Named Unknown) → line_spelled line ≡ Err BadCommand
-unknown_spelled line e =
-    let parts = named line Unknown e in
-    cond-false (is_long line) _ _ parts.0
-    ∙ ap (λ (command : Result Command LineRefusal). and_then command (λ given. with_values (block_values (kind_of given) []) given))
-    (unknown_words (words_of line) parts.2).1
 
 -- A command without a block, from its operands.
 abbrev pub plain_spelled : Result Command LineRefusal → Spelled
@@ -155,11 +130,6 @@ pub alone_spelled : (line : List ℕ) (kind : PlainKind) (command : Result Comma
     → IfOk command (λ given. kind_of given ≡ None) → line_spelled line ≡ and_then command (λ given. Ok (given, []))
 alone_spelled line kind command is read alone =
     named_spelled line kind is ∙ ap plain_spelled (sym read) ∙ without_values command alone
-
--- The command of a line that opens a block.
-pub opening_spelled : (line : List ℕ) (kind : BlockKind) → line_kind line ≡ Some (Named (Opening kind))
-    → command_of (words_of line) ≡ opening_command kind (drop 1 (words_of line))
-opening_spelled line kind e = opening_read (words_of line) kind (named line (Opening kind) e).2
 
 pub named_short : (line : List ℕ) (word : FirstWord) → line_kind line ≡ Some (Named word) → length line ≤ longest_line
 named_short line word e = ltb-false longest_line (length line) (named line word e).0

@@ -79,17 +79,3 @@ none_told line (Some kind) e = cc
 
 pub told_none : (line : List ℕ) → first_line line ≡ None → line_kind line ≡ None
 told_none line e = none_told line (line_kind line) e
-
-abbrev end_in : Option FirstLine → Option ℕ
-end_in None = None
-end_in (Some first) = Some first.name_end
-
-end_told : (line : List ℕ) (kind : Option LineKind) (first : FirstLine) (word : FirstWord) → first_line_by line kind ≡ Some first
-    → kind ≡ Some (Named word) → first.name_end ≡ name_end line
-end_told line None first word e is = cc
-end_told line (Some Long) first word e is = cc
-end_told line (Some (Named other)) first word e is = let end : Some (name_end line) ≡ Some first.name_end = ap end_in e in cc
-
-pub told_end : (line : List ℕ) (first : FirstLine) (word : FirstWord) → first_line line ≡ Some first
-    → line_kind line ≡ Some (Named word) → first.name_end ≡ name_end line
-told_end line first word e is = end_told line (line_kind line) first word e is

@@ -7,8 +7,8 @@ use Rattle.h41_keys.specs.Keyboard.{key_named}
 use Rattle.h41_commands.specs.Commands
 use Rattle.std.specs.Prelude.{◌==◌}
 use Rattle.h41_commands.specs.Commands.{bank_number, first_bank, is_bank_word, plug_at_bank}
-use Rattle.h41_commands.specs.Commands.{and_then, break_location, command_by, command_of, counted_command, key_of, keys_of, kind_of_word}
-use Rattle.h41_commands.specs.Commands.{list_command, listing_of, load_command, location_by, named_in, opening_command, plain_command}
+use Rattle.h41_commands.specs.Commands.{and_then, command_by, command_of, counted_command, key_of, keys_of, kind_of_word}
+use Rattle.h41_commands.specs.Commands.{list_command, load_command, location_by, named_in, opening_command}
 use Rattle.h41_commands.specs.Commands.{plain_of_word, plug_at, plug_command, read_plain, view_named, view_of, views_by_name}
 use Rattle.h41_commands.specs.Commands.{most_position, most_registers, most_steps, most_words}
 use Rattle.h41_commands.specs.private.ItemReading.{is_unended}

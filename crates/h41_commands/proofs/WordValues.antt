@@ -1,17 +1,16 @@
 -- What one more word, and one more line, make of a page.
 use Rattle.std.proofs.Common.{inl, inr, ◌≡◌, ℕ, ◌<◌, Bool, true, false, not, ◌&&◌, ◌||◌, cond, nat_lt, List, [], ◌∷◌, ◌++◌, map, length}
 use Rattle.std.proofs.Common.{filter, flat_map, Option, Some, None, Result, Ok, Err, refl, sym, ◌∙◌, ap, arith, if◌then◌else◌, append-nil}
-use Rattle.std.proofs.Common.{suc, length-append, ◌⊎◌, ◌≤◌, ◌-◌, take, replicate}
+use Rattle.std.proofs.Common.{suc, length-append, ◌⊎◌}
 use Rattle.std.specs.List.{list_all, list_any}
 use Rattle.std.specs.Option.{option_or}
 use Rattle.std.specs.Str.Parse.{digits_value}
 use Rattle.std.proofs.lemmas.Bool.{lt-ltb, ltb-true, or_cases, or_left, or_right}
-use Rattle.std.proofs.lemmas.List.{map-append, take_all}
+use Rattle.std.proofs.lemmas.List.{map-append}
 use Rattle.std.proofs.lemmas.List.Elements.{filter-append}
 use Rattle.std.proofs.lemmas.List.Folds.{list_all-append, list_any-append}
 use Rattle.std.proofs.lemmas.Grind.{flat_map-append}
-use Rattle.h41_pages.specs.Addresses.{page_size}
-use Rattle.h41_commands.specs.Blocks.{word_values, block_words, page_of_words}
+use Rattle.h41_commands.specs.Blocks.{word_values, block_words}
 use Rattle.h41_lines.specs.Words.{words_of}
 use Rattle.h41_commands.specs.DeckLines.{is_skipped}
 use Rattle.h41_lines.specs.Numbers.{is_hexadecimal}
@@ -118,12 +117,6 @@ hex-Err word fault e = no_hex_of (is_hex word) (value word) fault e
 abbrev says : List ℕ → Bool
 says line = not (is_skipped line)
 
-pub block_words-skipped : (inside : List (List ℕ)) (line : List ℕ) → is_skipped line ≡ true
-    → block_words (inside ++ line ∷ []) ≡ block_words inside
-block_words-skipped inside line skipped =
-    ap (flat_map words_of)
-    (filter-append says inside (line ∷ []) ∙ ap (λ (b : Bool). filter says inside ++ cond (not b) (line ∷ []) []) skipped ∙ append-nil _)
-
 pub block_words-push : (inside : List (List ℕ)) (line : List ℕ) → is_skipped line ≡ false
     → block_words (inside ++ line ∷ []) ≡ block_words inside ++ words_of line
 block_words-push inside line other =
@@ -131,10 +124,3 @@ block_words-push inside line other =
     (filter-append says inside (line ∷ []) ∙ ap (λ (b : Bool). filter says inside ++ cond (not b) (line ∷ []) []) other)
     ∙ flat_map-append words_of (filter says inside) (line ∷ [])
     ∙ ap (λ (words : List (List ℕ)). block_words inside ++ words) (append-nil (words_of line))
-
--- What `resize` makes of a page's words.
-pub resized : (values items : List ℕ) (count : ℕ) → count ≡ length values → count ≤ page_size
-    → items ≡ take page_size values ++ replicate (page_size - count) 0 → items ≡ page_of_words values
-resized values items count same room e =
-    let short : length values ≤ page_size = omega arith in
-    e ∙ (λ i. take_all page_size values short i ++ replicate (page_size - same i) 0)

@@ -1,8 +1,7 @@
 -- The results of the operations are determined.
-use Rattle.std.proofs.Common.{◌≡◌, ℕ, suc, ◌+◌, ◌*◌, ◌<◌, ◌≤◌, ⊎_elim, sym, ◌∙◌, subst, arith, Result, Ok, Err, Bool, true, false}
+use Rattle.std.proofs.Common.{◌≡◌, ℕ, suc, ◌+◌, ◌*◌, ◌<◌, ◌≤◌, sym, ◌∙◌, arith, Result, Ok, Err, Bool, true, false}
 use Rattle.std.proofs.Common.{MatchBool}
 use Rattle.std.specs.Prelude.{ℤ, pos, negsuc, ◌+ℤ◌, ◌-ℤ◌, ◌*ℤ◌, ◌<ℤ◌, ◌≤ℤ◌, ◌==◌, unsigned_abs}
-use Rattle.std.proofs.lemmas.Bool.{cases_lt}
 use Rattle.std.proofs.lemmas.Int.{ints, by_lt_z}
 use Rattle.std.proofs.Math.Nat.{mul-le-mul_right}
 use Rattle.std.proofs.Math.IntN.{pos-*ℤ-pos, pos-*ℤ-negsuc, negsuc-*ℤ-pos, negsuc-*ℤ-negsuc}
@@ -15,6 +14,7 @@ use Rattle.h41_decimal.specs.declared.fault.DecimalFault.{DecimalFault}
 use Rattle.h41_decimal.specs.declared.fault.DecimalFault.TheVariants.{Data}
 use Rattle.h41_decimal.specs.declared.ten.Ten.{Ten}
 use Rattle.h41_decimal.proofs.Determined.{nearest_determined}
+use Rattle.h41_decimal.proofs.Same.{neither_less}
 
 -- A count of steps is determined.
 not_fewer : (step size k l : ℕ) → size < 2 * ((k + 1) * step) → 2 * (l * step) ≤ size → k < l → ⊥
@@ -26,21 +26,13 @@ not_fewer step size k l next not_above less =
 same_count : (step size k l : ℕ) → 2 * (k * step) ≤ size → size < 2 * ((k + 1) * step) → 2 * (l * step) ≤ size → size < 2 * ((l + 1) * step)
     → k ≡ l
 same_count step size k l k_low k_high l_low l_high =
-    ⊎_elim
-    (λ (less : k < l). absurd (not_fewer step size k l k_high l_low less))
-    (λ (ge : l ≤ k).
-    ⊎_elim
-    (λ (less : l < k). absurd (not_fewer step size l k l_high k_low less))
-    (λ (le : k ≤ l). omega arith)
-    (cases_lt l k))
-    (cases_lt k l)
+    neither_less k l (not_fewer step size k l k_high l_low) (not_fewer step size l k l_high k_low)
 
 pub steps_determined : StepsAreDetermined
 steps_determined step number a b h k =
     let e : h.steps ≡ k.steps =
     same_count step (2 * unsigned_abs number + step) h.steps k.steps h.not_above h.next_above k.not_above k.next_above in
-    let P : ℕ → Type 0 = λ t. Nearest (with_sign (sign_of number) (t * step)) 1 b in
-    nearest_determined (with_sign (sign_of number) (h.steps * step)) 1 a b h.value (subst P (sym e) k.value)
+    nearest_determined (with_sign (sign_of number) (h.steps * step)) 1 a b h.value (rw e k.value)
 
 -- The result of a division.
 quotient_either : (t : Bool) (above : ℤ) (below : ℕ) (a b : Result Ten DecimalFault)
@@ -115,8 +107,7 @@ floor_determined w v y x h k =
 rest_determined : (y x : ℤ) (a b : Result Ten DecimalFault) → RoundsRest y x a → RoundsRest y x b → a ≡ b
 rest_determined y x a b h k =
     let e : h.whole ≡ k.whole = floor_determined h.whole k.whole y x h.floor k.floor in
-    let P : ℤ → Type 0 = λ w. Nearest (y -ℤ x *ℤ w) 1 b in
-    nearest_determined (y -ℤ x *ℤ h.whole) 1 a b h.rest (subst P (sym e) k.rest)
+    nearest_determined (y -ℤ x *ℤ h.whole) 1 a b h.rest (rw e k.rest)
 
 -- The result of a remainder.
 modulo_either : (t : Bool) (number : Ten) (y x : ℤ) (a b : Result Ten DecimalFault)

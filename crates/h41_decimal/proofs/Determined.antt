@@ -1,15 +1,14 @@
 -- The nearest decimal is determined.
-use Rattle.std.proofs.Common.{◌≡◌, ℕ, ◌+◌, ◌*◌, ◌^◌, ◌<◌, ◌≤◌, ⊎_elim, sym, ◌∙◌, ap, subst, arith, Result, Ok, Err, Bool, true, false}
+use Rattle.std.proofs.Common.{◌≡◌, ℕ, ◌+◌, ◌*◌, ◌^◌, ◌<◌, sym, ◌∙◌, ap, arith, Result, Ok, Err, Bool, true, false}
 use Rattle.std.proofs.Common.{MatchBool, IsOkAnd}
 use Rattle.std.specs.Prelude.{ℤ, pos, negsuc, nat_le, ◌==◌, unsigned_abs}
-use Rattle.std.proofs.lemmas.Bool.{cases_lt}
 use Rattle.std.proofs.Math.Nat.{eq_of_mul-eq-mul_right}
 use Rattle.std.proofs.lemmas.Nat.{pow-add}
 use Rattle.h41_decimal.specs.Signs.{with_sign, sign_of}
 use Rattle.h41_decimal.specs.Units.{one, size_of, units}
 use Rattle.h41_decimal.specs.NearestDecimal.{Exact, Fraction, RootOf, IsBelow, IsAtLeast, IsNear, IsTenDigits, IsBounded, IsRounded}
 use Rattle.h41_decimal.specs.NearestDecimal.{Nearest, NearestRoot, up_of, down_of}
-use Rattle.h41_decimal.proofs.Same.{units_injective}
+use Rattle.h41_decimal.proofs.Same.{neither_less, one_exponent, units_injective}
 use Rattle.h41_decimal.specs.declared.fault.DecimalFault.{DecimalFault}
 use Rattle.h41_decimal.specs.declared.fault.DecimalFault.TheVariants.{Range}
 use Rattle.h41_decimal.specs.declared.sign.Sign.{Sign}
@@ -41,26 +40,12 @@ not_smaller v m a b n a' b' m_ten n_ten x y less =
 same_size : (v : Exact) (m a b n a' b' : ℕ) → IsTenDigits m → IsTenDigits n → IsNear v m a b → IsNear v n a' b'
     → m * (10 ^ a * 10 ^ b') ≡ n * (10 ^ a' * 10 ^ b)
 same_size v m a b n a' b' m_ten n_ten x y =
-    ⊎_elim
-    (λ (less : m * (10 ^ a * 10 ^ b') < n * (10 ^ a' * 10 ^ b)). absurd (not_smaller v m a b n a' b' m_ten n_ten x y less))
-    (λ (ge : n * (10 ^ a' * 10 ^ b) ≤ m * (10 ^ a * 10 ^ b')).
-    ⊎_elim
-    (λ (less : n * (10 ^ a' * 10 ^ b) < m * (10 ^ a * 10 ^ b')). absurd (not_smaller v n a' b' m a b n_ten m_ten y x less))
-    (λ (le : m * (10 ^ a * 10 ^ b') ≤ n * (10 ^ a' * 10 ^ b)). omega arith)
-    (cases_lt (n * (10 ^ a' * 10 ^ b)) (m * (10 ^ a * 10 ^ b'))))
-    (cases_lt (m * (10 ^ a * 10 ^ b')) (n * (10 ^ a' * 10 ^ b)))
+    neither_less (m * (10 ^ a * 10 ^ b')) (n * (10 ^ a' * 10 ^ b))
+    (not_smaller v m a b n a' b' m_ten n_ten x y) (not_smaller v n a' b' m a b n_ten m_ten y x)
 
 -- Equal sizes of ten digits have one exponent.
 same_steps : (m n s t : ℕ) → IsTenDigits m → IsTenDigits n → m * (10 ^ s * 1) ≡ n * (10 ^ t * 1) → s ≡ t
-same_steps m n s t m_ten n_ten e =
-    ⊎_elim
-    (λ (less : s < t). absurd (let h = lower_exponent m n s t m_ten.below n_ten.at_least less in omega arith))
-    (λ (ge : t ≤ s).
-    ⊎_elim
-    (λ (less : t < s). absurd (let h = lower_exponent n m t s n_ten.below m_ten.at_least less in omega arith))
-    (λ (le : s ≤ t). omega arith)
-    (cases_lt t s))
-    (cases_lt s t)
+same_steps m n s t m_ten n_ten e = one_exponent m n s t m_ten.at_least m_ten.below n_ten.at_least n_ten.below (omega arith)
 
 -- A size in range is not one below it.
 not_below_range : (m n s d : ℕ) → IsTenDigits m → IsTenDigits n → m * (10 ^ s * 10 ^ (d + 1)) ≡ n * (1 * 1) → ⊥
@@ -91,9 +76,7 @@ answers sign v m (pos s) n (pos t) x y m_ten n_ten near near' bounded bounded' =
     let st : s ≡ t = same_steps m n s t m_ten n_ten e in
     let p : n * (10 ^ t * 1) ≡ n * (10 ^ s * 1) = ap (λ k. n * (10 ^ k * 1)) (sym st) in
     let mn : m ≡ n = eq_of_mul-eq-mul_right (10 ^ s) (ten_pow_pos s) m n (omega arith) in
-    let P : ℕ → Type 0 = λ k. IsBounded sign n (pos k) y in
-    let Q : ℕ → Type 0 = λ k. IsBounded sign k (pos s) y in
-    in_range (nat_le s 198) (with_sign sign (size_of m s)) x y bounded (subst Q (sym mn) (subst P (sym st) bounded'))
+    in_range (nat_le s 198) (with_sign sign (size_of m s)) x y bounded (rw (mn, st) bounded')
 
 rounded_determined : (sign : Sign) (v : Exact) (x y : Result Ten DecimalFault) → IsRounded sign v x → IsRounded sign v y → x ≡ y
 rounded_determined sign v x y h k =

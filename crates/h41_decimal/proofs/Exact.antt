@@ -1,6 +1,6 @@
 -- The whole numbers that the operations round are cuts of their exact values.
 use Rattle.std.proofs.Common.{◌≡◌, ℕ, ◌+◌, ◌-◌, ◌*◌, ◌/◌, ◌%◌, ◌^◌, ◌<◌, ◌≤◌, min, ⊎_elim, sym, ◌∙◌, ap, refl, subst, arith}
-use Rattle.std.proofs.Math.Nat.{mul-le-mul_right, mul-lt-mul_of_pos_right, mul-pos, mul-le-mul, pow-le-pow_right, div-mul-le_self}
+use Rattle.std.proofs.Math.Nat.{mul-le-mul_right, mul-lt-mul_of_pos_right, mul-pos, pow-le-pow_right, div-mul-le_self}
 use Rattle.std.proofs.Math.Nat.{lt-div-mul-add, mul-add-div, mul-add-div_right}
 use Rattle.std.proofs.lemmas.Nat.{pow-add, le-div, div-add-mod'}
 use Rattle.std.proofs.lemmas.Bool.{cases_lt}
@@ -68,11 +68,6 @@ product_by_halves m n =
     product_of_halves (m / 100000) (m % 100000) (n / 100000) (n % 100000)
     ∙ ap (λ t. t * (n / 100000 * 100000 + n % 100000) / 100000) (div-add-mod' m 100000)
     ∙ ap (λ t. m * t / 100000) (div-add-mod' n 100000)
-
-pub product_is_long : (m n : ℕ) → 10 ^ 9 ≤ m → 10 ^ 9 ≤ n → 10 ^ 10 ≤ m * n / 100000
-product_is_long m n m_size n_size =
-    let big : 10 ^ 9 * 10 ^ 9 ≤ m * n = mul-le-mul m_size n_size in
-    le-div (10 ^ 10) (m * n) 100000 (omega arith) (omega arith)
 
 -- A hundredth of the product.
 pub cut_percent : (m n s t : ℕ) → IsCutFarEnough (Fraction ((m * 10 ^ s) * (n * 10 ^ t)) (100 * 10 ^ 108)) (m * n) (s + t + 18)

@@ -123,7 +123,7 @@ remainder_step n v s p r e =
     ap (λ t. t % v) m ∙ mul-mod_first n (10 ^ p) v
 
 -- The sizes of a dividend, a divisor and the remainder, if the exponent of the divisor is not higher.
-pub sizes_divide : (n m t s r : ℕ) → 0 < m → s ≤ t → r ≡ n * 10 ^ (t - s) % m
+sizes_divide : (n m t s r : ℕ) → 0 < m → s ≤ t → r ≡ n * 10 ^ (t - s) % m
     → (n * 10 ^ t ≡ (n * 10 ^ (t - s) / m) * (m * 10 ^ s) + r * 10 ^ s) × (r < m) × (r * 10 ^ s < m * 10 ^ s)
 sizes_divide n m t s r m_pos le r_is =
     let q : 10 ^ (t - s) * 10 ^ s ≡ 10 ^ t = power_parts (t - s) s t (omega arith) in
@@ -134,6 +134,15 @@ sizes_divide n m t s r m_pos le r_is =
     let b : n * 10 ^ (t - s) % m < m = mod_below (n * 10 ^ (t - s)) m m_pos in
     let less : r < m = omega arith in
     (omega arith, less, mul-lt-mul_of_pos_right less (ten_pow_pos s))
+
+abbrev pub quotient : Magnitude → Magnitude → ℕ
+quotient y x = y.mantissa.digits * 10 ^ (y.exponent.biased - x.exponent.biased) / x.mantissa.digits
+
+pub divided : (y x : Magnitude) (r : ℕ) → x.exponent.biased ≤ y.exponent.biased
+    → r ≡ y.mantissa.digits * 10 ^ (y.exponent.biased - x.exponent.biased) % x.mantissa.digits
+    → (size y ≡ quotient y x * size x + r * 10 ^ x.exponent.biased) × (r < x.mantissa.digits) × (r * 10 ^ x.exponent.biased < size x)
+divided y x r le r_is =
+    sizes_divide y.mantissa.digits x.mantissa.digits y.exponent.biased x.exponent.biased r (omega (arith, x.mantissa.at_least)) le r_is
 
 -- The rounded value is the remainder.
 pub rest_rounds : (sign : Sign) (k place : ℕ) (answer : Result Ten DecimalFault) → 0 < k → RoundsWhole sign k (place + 128) answer

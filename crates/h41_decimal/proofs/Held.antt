@@ -1,5 +1,5 @@
 -- A number has only one register.
-use Rattle.std.proofs.Common.{◌≡◌, ℕ, zero, suc, ◌+◌, ◌-◌, ◌*◌, ◌^◌, ◌<◌, ◌≤◌, ◌⊎◌, ⊎_elim, inl, inr, sym, ◌∙◌, ap, refl, subst, arith}
+use Rattle.std.proofs.Common.{◌≡◌, ℕ, zero, suc, ◌+◌, ◌-◌, ◌*◌, ◌^◌, ◌<◌, ◌≤◌, ◌⊎◌, ⊎_elim, inl, inr, sym, ◌∙◌, ap, refl, arith}
 use Rattle.std.proofs.Common.{length, List, Option, Some, None, Bool, true, false}
 use Rattle.std.specs.Prelude.{ℤ, pos, ◌==◌, if◌then◌else◌, nat_le, nat_lt, slice_index, ◌&&◌, unsigned_abs}
 use Rattle.std.specs.Option.{option_map}
@@ -69,10 +69,7 @@ same_digits x y place (suc count) n h i k low high =
     ⊎_elim
     (λ (more : place < k).
     same_digits x y (place + 1) count s.rest s.rest_is (t.rest_is ∙ ap Some rest) k (omega arith) (omega arith))
-    (λ (first : k ≤ place).
-    let e : place ≡ k = omega arith in
-    let P : ℕ → Type 0 = λ j. slice_index x j ≡ slice_index y j in
-    subst P e digit)
+    (λ (first : k ≤ place). let e : k ≡ place = omega arith in rw e digit)
     (cases_lt place k)
 
 -- The parts of a number in a register. Zero is a register of zeros.
@@ -112,9 +109,7 @@ worth_of false m e s sign steps z less sign_is steps_is h = record {
 nonzero_of : (m e s : ℕ) (sign : Option Sign) (steps : Option ℕ) (z : ℤ) → sign_in s ≡ sign → steps_in e ≡ steps
     → digits_worth m sign steps ≡ Some z → IsHeldNonzero m e s z
 nonzero_of m e s (Some sign) (Some steps) z sign_is steps_is h = worth_of (nat_lt m (10 ^ 9)) m e s sign steps z refl sign_is steps_is h
-nonzero_of m e s (Some sign) None z sign_is steps_is h = absurd cc
-nonzero_of m e s None (Some steps) z sign_is steps_is h = absurd cc
-nonzero_of m e s None None z sign_is steps_is h = absurd cc
+nonzero_of m e s sign steps z sign_is steps_is h = absurd cc
 
 either_of : (t u v : Bool) (m e s : ℕ) (z : ℤ) → (m == 0) ≡ t → (e == 0) ≡ u → (s == 0) ≡ v
     → (if t && u && v then Some (pos 0) else digits_worth m (sign_in s) (steps_in e)) ≡ Some z → IsHeldZero m e s z ⊎ IsHeldNonzero m e s z
@@ -136,9 +131,7 @@ held_of (Some m) (Some e) s z h = record {
   exponent_is = refl;
   either = either_of (m == 0) (e == 0) (s == 0) m e s z refl refl refl h;
 }
-held_of (Some m) None s z h = absurd cc
-held_of None (Some e) s z h = absurd cc
-held_of None None s z h = absurd cc
+held_of mantissa exponent s z h = absurd cc
 
 -- The digit of a sign is determined.
 plus_digit : (t u : Bool) (s : ℕ) → (s == 0) ≡ t → (if t then Some Plus else if u then Some Minus else None) ≡ Some Plus → s ≡ 0
@@ -171,21 +164,12 @@ exponent_of false false e steps a b h = absurd cc
 
 same_exponent : (e f steps : ℕ) → e < 10 ^ 3 → f < 10 ^ 3 → steps_in e ≡ Some steps → steps_in f ≡ Some steps → e ≡ f
 same_exponent e f steps e_below f_below h k =
-    ⊎_elim
-    (λ (x : (e ≤ 99) × (e + 99 ≡ steps)).
-    let x0 = x.0 in
-    let x1 = x.1 in
-    ⊎_elim
-    (λ (y : (f ≤ 99) × (f + 99 ≡ steps)). let y1 = y.1 in omega arith)
-    (λ (y : (901 ≤ f) × (steps + 901 ≡ f)). let y1 = y.1 in omega arith)
-    (exponent_of (nat_le f 99) (nat_le 901 f) f steps refl refl k))
-    (λ (x : (901 ≤ e) × (steps + 901 ≡ e)).
-    let x1 = x.1 in
-    ⊎_elim
-    (λ (y : (f ≤ 99) × (f + 99 ≡ steps)). let y1 = y.1 in omega arith)
-    (λ (y : (901 ≤ f) × (steps + 901 ≡ f)). let y1 = y.1 in omega arith)
-    (exponent_of (nat_le f 99) (nat_le 901 f) f steps refl refl k))
-    (exponent_of (nat_le e 99) (nat_le 901 e) e steps refl refl h)
+    let first = exponent_of (nat_le e 99) (nat_le 901 e) e steps refl refl h in
+    let second = exponent_of (nat_le f 99) (nat_le 901 f) f steps refl refl k in
+    elim first [
+      | inl x ↦ elim second [ inl y ↦ omega (arith, x, y) | inr y ↦ omega (arith, x, y) ]
+      | inr x ↦ elim second [ inl y ↦ omega (arith, x, y) | inr y ↦ omega (arith, x, y) ]
+    ]
 
 -- The parts of a number are determined.
 record AreSame (m e s n f r : ℕ) : Type 0 where
@@ -253,10 +237,7 @@ same_at a b z a_holds b_holds k less =
     ⊎_elim
     (λ (mantissa : k < 13).
     same_digits a b 3 10 h.m h.mantissa_is (i.mantissa_is ∙ ap Some (sym same.mantissa)) k above (omega arith))
-    (λ (last : 13 ≤ k).
-    let e : 13 ≡ k = omega arith in
-    let P : ℕ → Type 0 = λ j. slice_index a j ≡ slice_index b j in
-    subst P e same.sign)
+    (λ (last : 13 ≤ k). let e : k ≡ 13 = omega arith in rw e same.sign)
     (cases_lt k 13))
     (cases_lt k 3)
 

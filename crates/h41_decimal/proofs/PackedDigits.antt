@@ -57,28 +57,6 @@ packed_two_more count number =
     let high : number % 100 / 10 % 10 ≡ number / 10 % 10 = omega arith in
     omega (arith, ap (word_of_digits count) tens, low, high)
 
-packed_four_more : (count number : ℕ)
-    → word_of_digits (suc (suc (suc (suc count)))) number
-    ≡ word_of_digits 4 (number % 10000) + 65536 * word_of_digits count (number / 10000)
-packed_four_more count number =
-    let low : number % 10000 % 100 ≡ number % 100 = omega arith in
-    let high : number % 10000 / 100 ≡ number / 100 % 100 = omega arith in
-    let rest : number / 100 / 100 ≡ number / 10000 = omega arith in
-    let whole = packed_two_more (suc (suc count)) number in
-    let behind = packed_two_more count (number / 100) in
-    let four = packed_two_more 2 (number % 10000) in
-    joined_parts _ _ _ _ _ _ _ whole behind (four ∙ ap (λ n. word_of_digits 2 n + 256 * word_of_digits 2 (number % 10000 / 100)) low
-    ∙ ap (λ n. word_of_digits 2 (number % 100) + 256 * word_of_digits 2 n) high) (ap (word_of_digits count) rest)
-  where
-    joined_parts : (all first others second last four rest : ℕ) → all ≡ first + 256 * others → others ≡ second + 256 * last
-        → four ≡ first + 256 * second → last ≡ rest → all ≡ four + 65536 * rest
-    joined_parts all first others second last four rest whole behind front same = omega arith
-
-pub packed_as_pairs : (number low high : ℕ) → low ≡ word_of_digits 2 (number % 100) → high ≡ word_of_digits 2 (number / 100)
-    → low + 256 * high ≡ word_of_digits 4 number
-packed_as_pairs number low high low_is high_is =
-    ap (λ n. n + 256 * high) low_is ∙ ap (λ n. word_of_digits 2 (number % 100) + 256 * n) high_is ∙ sym (packed_two_more 2 number)
-
 -- Three digits of which the first is known.
 pub packed_behind : (first rest low : ℕ) → first ≤ 9 → rest < 100 → low ≡ word_of_digits 2 rest → 256 * first + low
     ≡ word_of_digits 3 (100 * first + rest)
@@ -89,18 +67,6 @@ packed_behind first rest low one two low_is =
   where
     joined_parts : (first low two digit all : ℕ) → low ≡ two → digit ≡ first → all ≡ two + 256 * (digit + 16 * 0) → 256 * first + low ≡ all
     joined_parts first low two digit all low_is digit_is all_is = omega arith
-
-pub packed_as_fours : (number low middle high : ℕ) → low ≡ word_of_digits 4 (number % 10000) → middle
-    ≡ word_of_digits 4 (number / 10000 % 10000)
-    → high ≡ word_of_digits 2 (number / 100000000) → low + 65536 * middle + 4294967296 * high ≡ word_of_digits 10 number
-packed_as_fours number low middle high low_is middle_is high_is =
-    let last : number / 10000 / 10000 ≡ number / 100000000 = omega arith in
-    joined_parts low middle high _ _ _ _ _ low_is middle_is (high_is ∙ sym (ap (word_of_digits 2) last)) (packed_four_more 6 number)
-    (packed_four_more 2 (number / 10000))
-  where
-    joined_parts : (low middle high first second third others all : ℕ) → low ≡ first → middle ≡ second → high ≡ third
-        → all ≡ first + 65536 * others → others ≡ second + 65536 * third → low + 65536 * middle + 4294967296 * high ≡ all
-    joined_parts low middle high first second third others all low_is middle_is high_is whole behind = omega arith
 
 -- Digits that are equal are read as equal numbers.
 moved : (x y : List ℕ) (p q count : ℕ) → ((k : ℕ) → k < count → slice_index x (p + k) ≡ slice_index y (q + k))

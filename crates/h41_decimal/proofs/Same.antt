@@ -44,17 +44,20 @@ same_parts : (x y : Magnitude) → x.mantissa ≡ y.mantissa → x.exponent ≡ 
 unfolding size_at
 same_parts x y e f = ap (λ m. size_at m x.exponent) e ∙ ap (λ k. size_at y.mantissa k) f
 
+-- Numbers of which neither is less are equal.
+pub neither_less : (a b : ℕ) → (a < b → ⊥) → (b < a → ⊥) → a ≡ b
+neither_less a b up down =
+    ⊎_elim
+    (λ (less : a < b). absurd (up less))
+    (λ (ge : b ≤ a). ⊎_elim (λ (less : b < a). absurd (down less)) (λ (le : a ≤ b). omega arith) (cases_lt b a))
+    (cases_lt a b)
+
 -- Sizes with the same value have the same exponent, and so the same digits.
 pub one_exponent : (m n s t : ℕ) → 10 ^ 9 ≤ m → m < 10 ^ 10 → 10 ^ 9 ≤ n → n < 10 ^ 10 → m * 10 ^ s ≡ n * 10 ^ t → s ≡ t
 one_exponent m n s t m_least m_below n_least n_below e =
-    ⊎_elim
-    (λ (less : s < t). absurd (let h = lower_exponent m n s t m_below n_least less in omega arith))
-    (λ (ge : t ≤ s).
-    ⊎_elim
-    (λ (less : t < s). absurd (let h = lower_exponent n m t s n_below m_least less in omega arith))
-    (λ (le : s ≤ t). omega arith)
-    (cases_lt t s))
-    (cases_lt s t)
+    neither_less s t
+    (λ less. let h = lower_exponent m n s t m_below n_least less in omega arith)
+    (λ less. let h = lower_exponent n m t s n_below m_least less in omega arith)
 
 same_sizes : (x y : Magnitude) → size x ≡ size y → x ≡ y
 same_sizes x y e =

@@ -1,25 +1,23 @@
 -- Operations on decimals, from those on sizes.
-use Rattle.std.proofs.Common.{◌≡◌, ℕ, zero, suc, ◌+◌, ◌-◌, ◌*◌, ◌^◌, ◌<◌, ◌≤◌, sym, ◌∙◌, ap, refl, subst, arith, Result, Ok, Err, Bool}
-use Rattle.std.proofs.Common.{true, false, MatchBool, IsOkAnd}
+use Rattle.std.proofs.Common.{◌≡◌, ℕ, zero, suc, ◌+◌, ◌-◌, ◌*◌, ◌^◌, ◌<◌, ◌≤◌, sym, ◌∙◌, ap, refl, subst, arith, Result, Ok, Err}
+use Rattle.std.proofs.Common.{true, false}
 use Rattle.std.proofs.lemmas.Bool.Decides.{nat_tests}
 use Rattle.std.specs.Prelude.{ℤ, pos, neg_ℤ, ◌+ℤ◌, ◌-ℤ◌, ◌*ℤ◌, ◌<ℤ◌, unsigned_abs, nat_le}
 use Rattle.std.proofs.lemmas.Int.{ints}
 use Rattle.std.proofs.Math.Nat.{mul-pos, pow-suc, pow-le-pow_right, mul-lt-mul_of_pos_right, mul-le-mul_right}
-use Rattle.std.specs.Ordering.{int_cmp, MatchOrdering}
+use Rattle.std.specs.Ordering.{int_cmp}
 use Rattle.std.specs.Cmp.{int_cmp_is}
-use Rattle.std.proofs.lemmas.Cmp.{int_ranked}
-use Rattle.std.specs.declared.cmp.Ordering.{Ordering}
-use Rattle.std.specs.declared.cmp.Ordering.TheVariants.{Less, Equal, Greater}
+use Rattle.std.specs.declared.cmp.Ordering.TheVariants.{Less, Greater}
 use denote.Enum.Bare.{sameb}
 use Rattle.h41_decimal.specs.contracts.sign.Sign.{the_type}
 use Rattle.std.proofs.Math.IntN.{zero-*ℤ}
 use Rattle.std.proofs.lemmas.Nat.{pow-add}
 use Rattle.h41_decimal.specs.Signs.{with_sign, opposite_of, product_of}
-use Rattle.h41_decimal.specs.Units.{one, size, size_of, units}
+use Rattle.h41_decimal.specs.Units.{one, size, units}
 use Rattle.h41_decimal.specs.NearestDecimal.{Exact, Fraction, RootOf, IsBounded, IsRounded, Nearest, NearestRoot}
 use Rattle.h41_decimal.specs.Operations.{NearestQuotient}
 use Rattle.h41_decimal.specs.declared.fault.DecimalFault.{DecimalFault}
-use Rattle.h41_decimal.specs.declared.fault.DecimalFault.TheVariants.{Data, Range}
+use Rattle.h41_decimal.specs.declared.fault.DecimalFault.TheVariants.{Data}
 use Rattle.h41_decimal.specs.declared.parts.Magnitude.{Magnitude}
 use Rattle.h41_decimal.specs.declared.sign.Sign.{Sign}
 use Rattle.h41_decimal.specs.declared.sign.Sign.TheVariants.{Plus, Minus}
@@ -49,13 +47,7 @@ own_bounded sign x steps e =
     let low : x.exponent.biased ≤ 198 = x.exponent.in_range in
     let small : steps ≤ 198 = omega arith in
     let t : nat_le steps 198 ≡ true = grind (arith, nat_tests) in
-    let same : with_sign sign (size x) ≡ with_sign sign (size_of x.mantissa.digits steps) =
-    ap (λ k. with_sign sign (size_of x.mantissa.digits k)) (sym e) in
-    let answer : Result Ten DecimalFault = Ok (Nonzero sign x) in
-    let Then : Type 0 = IsOkAnd answer (λ number. units number ≡ with_sign sign (size_of x.mantissa.digits steps)) in
-    let Else : Type 0 = answer ≡ Err Range in
-    let P : Bool → Type 0 = λ b. MatchBool b Then Else in
-    subst P (sym t) same
+    rw (t, e) refl
 
 own_scale : (m s : ℕ) → (m * 10 ^ s) * 10 ^ 128 ≡ ((10 * m) * 10 ^ (s + 127)) * 1
 own_scale m s =
@@ -147,12 +139,6 @@ zero_plus z = omega (arith, ints)
 pub plus_zero : (z : ℤ) → z +ℤ pos 0 ≡ z
 plus_zero z = omega (arith, ints)
 
-pub plus_comm : (y z : ℤ) → y +ℤ z ≡ z +ℤ y
-plus_comm y z = omega (arith, ints)
-
-pub plus_negative : (y z : ℤ) → y -ℤ z ≡ y +ℤ neg_ℤ z
-plus_negative y z = omega (arith, ints)
-
 pub minus_same_sign : (s : Sign) (a b : ℕ) → with_sign s a +ℤ with_sign (opposite_of s) b ≡ with_sign s a -ℤ with_sign s b
 minus_same_sign Plus a b = omega (arith, ints)
 minus_same_sign Minus a b = omega (arith, ints)
@@ -186,20 +172,8 @@ order_less a b h = int_cmp_is (pos a) (pos b) Less (let g : pos a <ℤ pos b = o
 pub order_greater : (a b : ℕ) → b < a → Greater ≡ int_cmp (pos a) (pos b)
 order_greater a b h = int_cmp_is (pos a) (pos b) Greater (let g : pos b <ℤ pos a = omega (arith, ints) in g)
 
-pub order_equal : (a b : ℕ) → a ≡ b → Equal ≡ int_cmp (pos a) (pos b)
-order_equal a b h = int_cmp_is (pos a) (pos b) Equal (ap pos h)
-
 pub order_apart : (y z : ℤ) → y <ℤ z → (Less ≡ int_cmp y z) × (Greater ≡ int_cmp z y)
 order_apart y z h = (int_cmp_is y z Less h, int_cmp_is z y Greater h)
-
-turned : (a b : ℕ) (r : Ordering) → MatchOrdering r (pos b <ℤ pos a) (pos b ≡ pos a) (pos a <ℤ pos b)
-    → MatchOrdering r (neg_ℤ (pos a) <ℤ neg_ℤ (pos b)) (neg_ℤ (pos a) ≡ neg_ℤ (pos b)) (neg_ℤ (pos b) <ℤ neg_ℤ (pos a))
-turned a b Less h = omega (arith, ints)
-turned a b Equal h = ap neg_ℤ (sym h)
-turned a b Greater h = omega (arith, ints)
-
-pub order_turned : (a b : ℕ) (r : Ordering) → r ≡ int_cmp (pos b) (pos a) → r ≡ int_cmp (neg_ℤ (pos a)) (neg_ℤ (pos b))
-order_turned a b r e = int_cmp_is (neg_ℤ (pos a)) (neg_ℤ (pos b)) r (turned a b r (int_ranked (pos b) (pos a) r e))
 
 pub minus_below_plus : (a b : ℕ) → 0 < a → neg_ℤ (pos a) <ℤ pos b
 minus_below_plus zero b h = absurd (omega arith)

@@ -1,13 +1,11 @@
 -- The integer part and the fraction of a size, and decimals from whole numbers.
 use Rattle.std.proofs.Common.{◌≡◌, ℕ, ◌+◌, ◌-◌, ◌*◌, ◌/◌, ◌%◌, ◌^◌, ◌<◌, ◌≤◌, ⊎_elim, sym, ◌∙◌, ap, refl, subst, arith}
-use Rattle.std.specs.Prelude.{ℤ, pos, ◌-ℤ◌}
+use Rattle.std.specs.Prelude.{ℤ, pos}
 use Rattle.std.proofs.Math.Nat.{mul-le-mul_right, mul-lt-mul_of_pos_right, pow-le-pow_right, div-mul-le_self, lt-div-mul-add}
 use Rattle.std.proofs.lemmas.Nat.{div-add-mod', le-div}
 use Rattle.std.proofs.lemmas.Bool.{cases_lt}
-use Rattle.h41_decimal.specs.Signs.{with_sign, sign_of}
-use Rattle.h41_decimal.specs.Units.{one}
+use Rattle.h41_decimal.specs.Signs.{with_sign}
 use Rattle.h41_decimal.specs.WholeParts.{HasOnes, IsIntegerPart, IsFraction}
-use Rattle.h41_decimal.specs.Laws.{OnesAreDetermined, IntegerPartIsDetermined, FractionIsDetermined}
 use Rattle.h41_decimal.specs.declared.sign.Sign.{Sign}
 use Rattle.h41_decimal.proofs.Nearest.{ten_pow_pos}
 use Rattle.h41_decimal.proofs.Cuts.{power_parts}
@@ -129,23 +127,6 @@ filled_worth number missing steps p is le =
     ap (λ t. t * 10 ^ (steps - missing)) is ∙ power_parts missing (steps - missing) steps (omega arith) in
     let a : number * (p * 10 ^ (steps - missing)) ≡ number * 10 ^ steps = ap (λ t. number * t) q in
     omega arith
-
--- The parts are determined.
-pub ones_determined : OnesAreDetermined
-ones_determined size x y p q =
-    let a = p.not_above in
-    let b = p.next_above in
-    let c = q.not_above in
-    let d = q.next_above in
-    omega arith
-
-pub integer_determined : IntegerPartIsDetermined
-integer_determined number x y p q =
-    p.value ∙ ap (λ k. with_sign (sign_of number) (k * one)) (ones_determined _ p.ones q.ones p.whole q.whole) ∙ sym q.value
-
-pub fraction_determined : FractionIsDetermined
-fraction_determined number x y p q =
-    p.rest ∙ ap (λ part. number -ℤ part) (integer_determined number p.part q.part p.integer q.integer) ∙ sym q.rest
 
 -- The fraction of zero.
 pub zero_fraction : IsFraction (pos 0) (pos 0)

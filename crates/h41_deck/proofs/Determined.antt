@@ -113,15 +113,15 @@ module _ (same_steps : StepsAreDetermined) (same_load : LoadIsDetermined) (same_
       let rest = same_answers items q.0 a b (subst (λ from. AnswersInTurn items from a) both.0 p.2) q.2 in
       λ i. both.1 i ∷ rest i
 
-  pub same_text : DeckDeterminesText
+  same_text : DeckDeterminesText
   same_text registers bytes text other p q =
       p.2 ∙ ap (λ answers. flat_map printed_text answers) (same_answers _ (start registers) p.0 q.0 p.1.answered q.1.answered) ∙ sym q.2
 
-  pub same_ended : EndedTextIsDetermined
+  same_ended : EndedTextIsDetermined
   same_ended registers bytes text other p q =
       p.2 ∙ ap (λ answers. flat_map printed_text answers) (same_answers _ (start registers) p.0 q.0 p.1 q.1) ∙ sym q.2
 
-  pub same_outcome : DeckDeterminesOutcome
+  same_outcome : DeckDeterminesOutcome
   same_outcome registers bytes outcome other p q =
       p.2 ∙ ap outcome_of (same_answers _ (start registers) p.0 q.0 p.1.answered q.1.answered) ∙ sym q.2
 
@@ -136,7 +136,7 @@ module _ (same_steps : StepsAreDetermined) (same_load : LoadIsDetermined) (same_
       let rest = same_first items more p.0 a b p.2 (subst (λ from. AnswersInTurn (items ++ more) from b) both.0 q.2) in
       (rest.0, λ i. both.1 i ∷ rest.1 i)
 
-  pub first_is_front : FirstTextIsFront
+  first_is_front : FirstTextIsFront
   first_is_front registers deck first text p q =
       let given = subst (λ (of : List Spelled). AnswersInTurn of (start registers) q.0) p.begins q.1.answered in
       let more = same_first p.first p.rest (start registers) p.answers q.0 p.answered given in (
@@ -144,3 +144,6 @@ module _ (same_steps : StepsAreDetermined) (same_load : LoadIsDetermined) (same_
         q.2 ∙ ap (λ answers. flat_map printed_text answers) more.1 ∙ flat_map-append printed_text p.answers more.0
             ∙ ap (λ (front : List ℕ). front ++ flat_map printed_text more.0) (sym p.text_is),
       )
+
+  pub all_determined : DeckDeterminesText × EndedTextIsDetermined × DeckDeterminesOutcome × FirstTextIsFront
+  all_determined = (same_text, same_ended, same_outcome, first_is_front)

@@ -34,9 +34,10 @@ stripped_front line = elim (cases_Bool (slice_index line (length line - 1) == 13
 stripped_short : (line : List ℕ) → length (strip_carriage_return line) ≤ length line
 stripped_short line = omega (arith, ap length (stripped_front line), length-take (length (strip_carriage_return line)) line)
 
-front_told : (buffer : List ℕ) (start stop most : ℕ) → start ≤ stop → stop ≤ length buffer
+-- The last line.
+pub last_line : (buffer : List ℕ) (start stop most : ℕ) → start ≤ stop → stop ≤ length buffer
     → drop start (take (start + min (stop - start) most) buffer) ≡ take most (drop start (take stop buffer))
-front_told buffer start stop most order within =
+last_line buffer start stop most order within =
     drop-take start (min (stop - start) most) buffer
     ∙ sym (front_of most (stop - start) (drop start buffer) (omega (arith, length-drop start buffer, within, order)))
     ∙ ap (take most) (sym (between_is buffer start stop order))
@@ -65,11 +66,6 @@ line_told buffer start stop end long most order within inside is =
 pub held_behind : (buffer : List ℕ) (start stop end : ℕ) → drop (start + (end + 1)) (take stop buffer) ≡ drop (end + 1) (drop start (take
     stop buffer))
 held_behind buffer start stop end = sym (drop-drop (end + 1) start (take stop buffer))
-
--- The last line.
-pub last_line : (buffer : List ℕ) (start stop most : ℕ) → start ≤ stop → stop ≤ length buffer
-    → drop start (take (start + min (stop - start) most) buffer) ≡ take most (drop start (take stop buffer))
-last_line buffer start stop most order within = front_told buffer start stop most order within
 
 pub nothing_behind : (buffer : List ℕ) (stop : ℕ) → drop stop (take stop buffer) ≡ []
 nothing_behind buffer stop = drop_all stop (take stop buffer) (omega (arith, length-take stop buffer))

@@ -30,10 +30,6 @@ pub set_is_end : (b : Bool) → cond {A = ℕ} b 1 0 ≡ 1 → b ≡ true
 set_is_end true e = refl
 set_is_end false e = cc
 
-pub unset_is_none : (b : Bool) → cond {A = ℕ} b 1 0 ≡ 0 → b ≡ false
-unset_is_none true e = cc
-unset_is_none false e = refl
-
 -- The line ends at the first index that was found.
 pub ends_at : (text : List ℕ) (at : ℕ) → at < length text → NoneBefore text at → is_end_byte (get_or text at 0) ≡ true
     → Some at ≡ position is_end_byte text

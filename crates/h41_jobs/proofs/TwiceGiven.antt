@@ -1,5 +1,5 @@
 -- An option that is given twice is refused.
-use Rattle.std.proofs.Common.{ap, ap₂, sym, refl, codes, Bool, true, false, List, Some, None, [], ◌∷◌, ◌++◌, ◌≡◌}
+use Rattle.std.proofs.Common.{ap, ap₂, sym, refl, codes, true, false, List, Some, None, [], ◌∷◌, ◌++◌, ◌≡◌}
 use Rattle.std.proofs.Common.{◌∙◌, ◌&&◌, ◌||◌, ◌⊎◌, drop, inl, inr, not, subst, take}
 use Rattle.std.proofs.lemmas.Bool.{not-true, or_cases}
 use Rattle.std.proofs.lemmas.List.{take-append-drop}
@@ -121,9 +121,6 @@ two_fail c (a ∷ []) is = cc
 two_fail c (a ∷ b ∷ []) is = cc
 two_fail c (a ∷ b ∷ d ∷ rest) is = go (or_cases _ _ is)
   where
-    gives : Text → Bool
-    gives word = gives_option (name_text c) word
-
     go : ((gives_option (name_text c) a && gives_option (name_text c) b) ≡ true)
         ⊎ (((gives_option (name_text c) a && (not (is_flag b) && gives_option (name_text c) d))
         || (not (is_flag a) && (gives_option (name_text c) b && gives_option (name_text c) d))) ≡ true) → IsConflict c (a ∷ b ∷ d ∷ rest)

@@ -8,7 +8,8 @@ use Rattle.std.proofs.lemmas.Bool.{cases_lt}
 use Rattle.std.proofs.lemmas.Bool.Decides.{nat_tests}
 use Rattle.h41_decimal.specs.Signs.{with_sign}
 use Rattle.h41_decimal.specs.Units.{size_of, units}
-use Rattle.h41_decimal.specs.NearestDecimal.{Exact, Fraction, RootOf, IsBelow, IsAtLeast, IsTenDigits, IsBounded, IsRounded}
+use Rattle.h41_decimal.specs.NearestDecimal.{Exact, Fraction, IsAtLeast, IsBelow, IsBounded, IsNear, IsRounded, IsTenDigits}
+use Rattle.h41_decimal.specs.NearestDecimal.{RootOf, down_of, up_of}
 use Rattle.h41_decimal.specs.declared.fault.DecimalFault.{DecimalFault}
 use Rattle.h41_decimal.specs.declared.fault.DecimalFault.TheVariants.{Range}
 use Rattle.h41_decimal.specs.declared.sign.Sign.{Sign}
@@ -131,6 +132,15 @@ pub record HasRounded (sign : Sign) (v : Exact) : Type 0 where
   pub answer : Result Ten DecimalFault
   pub rounded : IsRounded sign v answer
 
+rounded_by : (sign : Sign) (v : Exact) (n : ℕ) (exponent : ℤ) → IsTenDigits n → IsNear v n (up_of exponent) (down_of exponent)
+    → HasRounded sign v
+rounded_by sign v n exponent ten near =
+    let bounded = has_bounded sign n exponent ten in
+    record {
+      answer = bounded.answer;
+      rounded = record { digits = n; exponent = exponent; ten_digits = ten; near = near; bounded = bounded.bounded };
+    }
+
 bar_above : (n m w up bar place : ℕ) → up * bar ≡ place → n * place ≡ m * (10 * w) → (n * up) * bar ≡ (m * (10 * w)) * 1
 bar_above n m w up bar place parts link =
     let a : n * (up * bar) ≡ n * place = ap (λ t. n * t) parts in
@@ -147,36 +157,16 @@ rounded_from : (sign : Sign) (v : Exact) (cut : HasEleven v) (m n place : ℕ) �
 rounded_from sign v cut m n place low high m_size ten link = elim (cases_lt place cut.bar) [
   | inl below ↦
       let more = cut.bar - place - 1 in
-      let bounded = has_bounded sign n (negsuc more) ten in
-      record {
-        answer = bounded.answer;
-        rounded = record {
-          digits = n;
-          exponent = negsuc more;
-          ten_digits = ten;
-          near =
-              near_at v cut.whole m n cut.scale 0 (more + 1) cut.bar cut.at_least cut.below cut.long low high m_size
-              (bar_below n m (10 ^ cut.scale) (10 ^ (more + 1)) (10 ^ cut.bar) (10 ^ place)
-              (power_parts place (more + 1) cut.bar (omega arith)) link);
-          bounded = bounded.bounded;
-        };
-      }
+      rounded_by sign v n (negsuc more) ten
+      (near_at v cut.whole m n cut.scale 0 (more + 1) cut.bar cut.at_least cut.below cut.long low high m_size
+      (bar_below n m (10 ^ cut.scale) (10 ^ (more + 1)) (10 ^ cut.bar) (10 ^ place)
+      (power_parts place (more + 1) cut.bar (omega arith)) link))
   | inr above ↦
       let steps = place - cut.bar in
-      let bounded = has_bounded sign n (pos steps) ten in
-      record {
-        answer = bounded.answer;
-        rounded = record {
-          digits = n;
-          exponent = pos steps;
-          ten_digits = ten;
-          near =
-              near_at v cut.whole m n cut.scale steps 0 cut.bar cut.at_least cut.below cut.long low high m_size
-              (bar_above n m (10 ^ cut.scale) (10 ^ steps) (10 ^ cut.bar) (10 ^ place)
-              (power_parts steps cut.bar place (omega arith)) link);
-          bounded = bounded.bounded;
-        };
-      }
+      rounded_by sign v n (pos steps) ten
+      (near_at v cut.whole m n cut.scale steps 0 cut.bar cut.at_least cut.below cut.long low high m_size
+      (bar_above n m (10 ^ cut.scale) (10 ^ steps) (10 ^ cut.bar) (10 ^ place)
+      (power_parts steps cut.bar place (omega arith)) link))
 ]
 
 -- The place of the tenth digit.

@@ -3,7 +3,7 @@ use Rattle.std.proofs.Common.{◌≡◌, ℕ, ◌<◌, ◌≤◌, Bool, true, fa
 use Rattle.h41_digits.specs.Register.{IsRegister}
 use Rattle.h41_fields.specs.Field.{first_place, last_place}
 use Rattle.h41_fields.specs.FieldLaws.{PlacesAreOrdered}
-use Rattle.h41_arith.specs.DigitRule.{DifferenceInto, SumInto, zeros, Sum, Difference}
+use Rattle.h41_arith.specs.DigitRule.{zeros, Sum, Difference, HasResult}
 use Rattle.h41_words.specs.declared.operation.Operation.{Operation}
 use Rattle.h41_words.specs.declared.operation.Operation.TheVariants.{AddBToA, AddCToA, IncrementA, SubtractBFromA, DecrementA}
 use Rattle.h41_words.specs.declared.operation.Operation.TheVariants.{SubtractCFromA, DoubleC, AddAToC, IncrementC, SubtractCFromAToC}
@@ -49,32 +49,27 @@ module _ (ordered : PlacesAreOrdered) (sums : SumHasOneResult) (differences : Di
   less_in_base Decimal = differences true
 
   module _ (lo hi : ℕ) (le : lo ≤ hi) (inside : hi < 14) where
-    sum : (base : Base) (into x y : List ℕ) (carry : Bool) → IsRegister 14 into → IsRegister 14 x → IsRegister 14 y
-        → Gives (SumInto (base_number base) into x y carry lo hi)
-    sum base into x y carry valid x_valid y_valid =
-        let found = in_base base into x y carry lo hi valid x_valid y_valid le inside in
-        (found.answer.0, found.answer.1, found.right)
-
-    difference : (base : Base) (into x y : List ℕ) (borrow : Bool) → IsRegister 14 into → IsRegister 14 x → IsRegister 14 y
-        → Gives (DifferenceInto (base_number base) into x y borrow lo hi)
-    difference base into x y borrow valid x_valid y_valid =
-        let found = less_in_base base into x y borrow lo hi valid x_valid y_valid le inside in
+    -- The one result of a rule.
+    given : (rule : List ℕ → List ℕ → ℕ → ℕ → ℕ → List ℕ → ℕ → Type 0) → HasOneResult rule → (into x y : List ℕ) (carry : Bool)
+        → IsRegister 14 into → IsRegister 14 x → IsRegister 14 y → Gives (HasResult rule into x y carry lo hi)
+    given rule one into x y carry valid x_valid y_valid =
+        let found = one into x y carry lo hi valid x_valid y_valid le inside in
         (found.answer.0, found.answer.1, found.right)
 
     operates : (operation : Operation) (s : Processor) → HasRegisters s → Has (Operates operation lo hi s)
-    operates AddBToA s has = into_a _ s (sum s.base s.a s.a s.b false has.a has.a has.b)
-    operates AddCToA s has = into_a _ s (sum s.base s.a s.a s.c false has.a has.a has.c)
-    operates IncrementA s has = into_a _ s (sum s.base s.a s.a zeros true has.a has.a zeros_register)
-    operates SubtractBFromA s has = into_a _ s (difference s.base s.a s.a s.b false has.a has.a has.b)
-    operates DecrementA s has = into_a _ s (difference s.base s.a s.a zeros true has.a has.a zeros_register)
-    operates SubtractCFromA s has = into_a _ s (difference s.base s.a s.a s.c false has.a has.a has.c)
-    operates DoubleC s has = into_c _ s (sum s.base s.c s.c s.c false has.c has.c has.c)
-    operates AddAToC s has = into_c _ s (sum s.base s.c s.a s.c false has.c has.a has.c)
-    operates IncrementC s has = into_c _ s (sum s.base s.c s.c zeros true has.c has.c zeros_register)
-    operates SubtractCFromAToC s has = into_c _ s (difference s.base s.c s.a s.c false has.c has.a has.c)
-    operates DecrementC s has = into_c _ s (difference s.base s.c s.c zeros true has.c has.c zeros_register)
-    operates NegateC s has = into_c _ s (difference s.base s.c zeros s.c false has.c zeros_register has.c)
-    operates ComplementC s has = into_c _ s (difference s.base s.c zeros s.c true has.c zeros_register has.c)
+    operates AddBToA s has = into_a _ s (given _ (in_base s.base) s.a s.a s.b false has.a has.a has.b)
+    operates AddCToA s has = into_a _ s (given _ (in_base s.base) s.a s.a s.c false has.a has.a has.c)
+    operates IncrementA s has = into_a _ s (given _ (in_base s.base) s.a s.a zeros true has.a has.a zeros_register)
+    operates SubtractBFromA s has = into_a _ s (given _ (less_in_base s.base) s.a s.a s.b false has.a has.a has.b)
+    operates DecrementA s has = into_a _ s (given _ (less_in_base s.base) s.a s.a zeros true has.a has.a zeros_register)
+    operates SubtractCFromA s has = into_a _ s (given _ (less_in_base s.base) s.a s.a s.c false has.a has.a has.c)
+    operates DoubleC s has = into_c _ s (given _ (in_base s.base) s.c s.c s.c false has.c has.c has.c)
+    operates AddAToC s has = into_c _ s (given _ (in_base s.base) s.c s.a s.c false has.c has.a has.c)
+    operates IncrementC s has = into_c _ s (given _ (in_base s.base) s.c s.c zeros true has.c has.c zeros_register)
+    operates SubtractCFromAToC s has = into_c _ s (given _ (less_in_base s.base) s.c s.a s.c false has.c has.a has.c)
+    operates DecrementC s has = into_c _ s (given _ (less_in_base s.base) s.c s.c zeros true has.c has.c zeros_register)
+    operates NegateC s has = into_c _ s (given _ (less_in_base s.base) s.c zeros s.c false has.c zeros_register has.c)
+    operates ComplementC s has = into_c _ s (given _ (less_in_base s.base) s.c zeros s.c true has.c zeros_register has.c)
     operates operation s has = alone _
 
   effect : (row : Row) (s : Nut) → HasRegisters s.processor → Has (WordEffect row s)

@@ -1,7 +1,6 @@
 -- A line of one or two bytes at a position is the first line from there on, and no END.
-use Rattle.std.proofs.Common.{◌≡◌, ◌≢◌, ℕ, ◌+◌, ◌-◌, ◌<◌, List, [], ◌∷◌, map, min, length, true, false, Ok}
-use Rattle.std.proofs.Common.{Result, inl, inr, refl, sym, subst, ap, ◌∙◌, arith}
-use Rattle.std.specs.List.{range_with_len}
+use Rattle.std.proofs.Common.{◌≡◌, ◌≢◌, ℕ, ◌+◌, ◌<◌, List, [], ◌∷◌, length, true, false, Ok, rules}
+use Rattle.std.proofs.Common.{Result, refl, sym, subst, ap, ◌∙◌, arith}
 use Rattle.h41_codes.specs.ByteGrammar.{spelling, Begins, Spells}
 use Rattle.h41_codes.specs.ByteLaws.{NumberBegins, OneLine}
 use Rattle.h41_codes.specs.Heads.{IsOneByte, IsTwoBytes}
@@ -29,17 +28,7 @@ module _ (one : OneLine) (numbers : NumberBegins) (memory : RegisterMap) (sound 
     (last_is : last ≡ final_position memory) (count : last + 3 ≡ byte_count memory) (before : at < last)
     (is : byte ≡ program_byte memory at) (other : byte ≢ 0) (alone : IsOneByte byte) (line : Line) (spells : Spells (byte ∷ []) line) where
   looked : Looked memory at at last last (bytes_seen memory at last)
-  looked = record {
-    last_is = last_is;
-    count = count;
-    from = omega arith;
-    to = omega (arith, before);
-    nulls = λ k low high. absurd (omega (arith, low, high));
-    stop = λ below null. other (is ∙ null);
-    before = λ below. refl;
-    behind = λ here. absurd (omega (arith, here, before));
-    bytes = refl;
-  }
+  looked = search rules
 
   pub one_byte_first : HasFirst memory at (record { listed = record { position = at; line = line }; behind = at + 1 })
   one_byte_first =
@@ -50,20 +39,14 @@ module _ (one : OneLine) (numbers : NumberBegins) (memory : RegisterMap) (sound 
 
 -- The bytes at two positions.
 seen_pair : (memory : RegisterMap) (at : ℕ) → bytes_seen memory at (at + 2) ≡ program_byte memory at ∷ program_byte memory (at + 1) ∷ []
-seen_pair memory at =
-    let two : at + 2 - at ≡ 2 = omega arith in
-    ap (λ n. map (program_byte memory) (range_with_len at (min 18 n))) two
+seen_pair memory at = search rules
 
 -- A byte that begins a line of two bytes begins no null and no number.
 two_not_null : (byte : ℕ) → IsTwoBytes byte → byte ≢ 0
-two_not_null byte (inl low) = λ null. omega (arith, low.0, null)
-two_not_null byte (inr (inl high)) = λ null. omega (arith, high.0, null)
-two_not_null byte (inr (inr last)) = λ null. omega (arith, last.0, null)
+two_not_null byte two = search rules
 
 two_no_number : (byte : ℕ) → IsTwoBytes byte → BeginsNoNumber byte
-two_no_number byte (inl low) = λ from to. omega (arith, low.0, to)
-two_no_number byte (inr (inl high)) = λ from to. omega (arith, high.0, to)
-two_no_number byte (inr (inr last)) = λ from to. omega (arith, last.0, to)
+two_no_number byte two = search rules
 
 module _ (one : OneLine) (numbers : NumberBegins) (memory : RegisterMap) (sound : is_sound memory ≡ true) (at last first second : ℕ)
     (last_is : last ≡ final_position memory) (count : last + 3 ≡ byte_count memory) (before : at + 1 < last)
@@ -73,17 +56,7 @@ module _ (one : OneLine) (numbers : NumberBegins) (memory : RegisterMap) (sound 
   seen = ap (λ byte. byte ∷ second ∷ []) is ∙ ap (λ byte. program_byte memory at ∷ byte ∷ []) next ∙ sym (seen_pair memory at)
 
   looked_two : Looked memory at at last last (bytes_seen memory at last)
-  looked_two = record {
-    last_is = last_is;
-    count = count;
-    from = omega arith;
-    to = omega (arith, before);
-    nulls = λ k low high. absurd (omega (arith, low, high));
-    stop = λ below null. two_not_null first two (is ∙ null);
-    before = λ below. refl;
-    behind = λ here. absurd (omega (arith, here, before));
-    bytes = refl;
-  }
+  looked_two = search (rules, two_not_null)
 
   pub two_bytes_first : HasFirst memory at (record { listed = record { position = at; line = line }; behind = at + 2 })
   two_bytes_first =

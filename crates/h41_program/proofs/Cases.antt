@@ -6,9 +6,6 @@ use Rattle.std.proofs.lemmas.Bool.Decides.{nat_tests}
 pub not_both : {A E : Type 0} (r : Result A E) (a : A) (e : E) → r ≡ Ok a → r ≡ Err e → ⊥
 not_both r a e ok err = cc
 
-pub same_error : {A E : Type 0} (r : Result A E) (e f : E) → r ≡ Err e → r ≡ Err f → e ≡ f
-same_error r e f one other = cc
-
 pub not_empty : {A : Type 0} (first : A) (rest : List A) → ◌≡◌ {A = List A} (first ∷ rest) [] → ⊥
 not_empty first rest same = cc
 

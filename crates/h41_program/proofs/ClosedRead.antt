@@ -1,9 +1,8 @@
 -- Memory after its last program is closed is read again.
-use Rattle.std.proofs.Common.{◌≡◌, Bool, true, false, List, [], ◌∷◌, ◌++◌, refl, sym, ◌∙◌, ap, subst, inl, inr, All, Option, Some, None}
-use Rattle.std.proofs.Common.{Result, Ok, Err}
+use Rattle.std.proofs.Common.{◌≡◌, Bool, true, false, List, [], ◌∷◌, ◌++◌, refl, sym, ◌∙◌, ap, All, Option, Some, None}
+use Rattle.std.proofs.Common.{Result, Ok, Err, rules}
 use Rattle.std.specs.Prelude.{OnOk, not, if◌then◌else◌}
 use Rattle.std.specs.Option.{option_map, option_map_or}
-use Rattle.std.proofs.lemmas.Bool.{cases_Bool}
 use Rattle.h41_codes.specs.ByteLaws.{ByteRoundTrip}
 use Rattle.h41_codes.specs.declared.line.Line.{Line}
 use Rattle.h41_codes.specs.declared.line.Line.TheVariants.{End, FinalEnd}
@@ -37,9 +36,7 @@ ends_with : (lines : List Line) (listed : List ListedLine) → All IsInner lines
     → (after : List ListedLine) × (before_end listed ≡ Some after) × (lines_of after ≡ lines)
 ends_with [] [] inner same = absurd (no_lines (FinalEnd 0 0) [] same)
 ends_with (line ∷ lines) [] inner same = absurd (no_lines line (lines ++ FinalEnd 0 0 ∷ []) same)
-ends_with [] (first ∷ rest) inner same =
-    let last : is_final_end first.line ≡ true = ap is_final_end (same_first first.line (FinalEnd 0 0) (lines_of rest) [] same) in
-    ([], rw last refl, refl)
+ends_with [] (first ∷ rest) inner same = search (rules, no_lines, same_first, others_inner, same_rest, not_final, first_inner)
 ends_with (line ∷ lines) (first ∷ rest) inner same =
     let here = same_first first.line line (lines_of rest) (lines ++ FinalEnd 0 0 ∷ []) same in
     let more =
@@ -90,37 +87,17 @@ module _ (again : ByteRoundTrip) (old left : RegisterMap) (lines before : List L
         all = after.1;
         same = after.2;
       }
-  leaves_lines false stands has =
-      let stays : with_last_end (lines_of before) ≡ lines_of before = rw stands refl in
-      record {
-        lines = lines;
-        before = before;
-        listed = lines;
-        after = before;
-        from = from;
-        own = own;
-        read = subst (λ (m : RegisterMap). LinesFrom m 0 lines) (sym has.1) from;
-        all = own;
-        same = sym stays;
-      }
+  leaves_lines false stands has = search (rules, closed_inner, before_inner, written_read, was_written, ends_with)
 
 leaves_behind : ByteRoundTrip → (old left : RegisterMap) (lines : List ListedLine) (before : Option (List ListedLine)) → is_sound old ≡ true
     → LinesFrom old 0 lines → before_end lines ≡ before → HasOutcome {A = Unit {0}} old left (Ok tt) (close_behind old before)
     → LeavesClosed old left
 leaves_behind again old left lines None sound from own has = absurd (refused_is_not_done BrokenProgram has.0)
-leaves_behind again old left lines (Some before) sound from own has =
-    leaves_lines again old left lines before sound from own (is_open (lines_of before)) refl has
+leaves_behind again old left lines (Some before) sound from own has = search (rules, leaves_lines)
 
 -- In memory that is not sound the last program is never closed.
 pub close_read : ByteRoundTrip → CloseIsRead
-close_read again old left closes = elim (cases_Bool (is_sound old)) [
-  | inl sound ↦ leaves_behind again old left closes.0 (before_end closes.0) sound closes.1 refl closes.2
-  | inr lost ↦
-      let none : before_end closes.0 ≡ None = ap before_end (closes.1.lost lost) in
-      let refused : HasOutcome {A = Unit {0}} old left (Ok tt) (Err BrokenProgram) =
-      subst (λ (before : Option (List ListedLine)). HasOutcome {A = Unit {0}} old left (Ok tt) (close_behind old before)) none closes.2 in
-      absurd (refused_is_not_done BrokenProgram refused.0)
-]
+close_read again old left closes = search (rules, leaves_behind)
 
 pub close_leaves : CloseIsRead → (old left : RegisterMap) (result : Result (Unit {0}) ProgramRefusal) → Closes old left result
     → OnOk result (LeavesClosed old left)

@@ -1,5 +1,5 @@
 -- Closing the last program.
-use Rattle.std.proofs.Common.{◌≡◌, Bool, true, false, List, refl, sym, ◌∙◌, ap, subst, Option, Some, None, Result, Ok, Err}
+use Rattle.std.proofs.Common.{◌≡◌, Bool, true, false, List, sym, ◌∙◌, ap, subst, Option, Some, None, Result, Ok, Err, rules}
 use Rattle.std.specs.Prelude.{MatchOption, IsOkAnd, not, if◌then◌else◌}
 use Rattle.std.specs.Option.{option_map_or}
 use Rattle.h41_codes.specs.declared.line.Line.{Line}
@@ -14,7 +14,6 @@ use Rattle.h41_program.specs.Lines.{is_end}
 use Rattle.h41_program.specs.private.Packers.{Packs}
 use Rattle.h41_program.specs.Rewriting.{with_program_lines, HasOutcome}
 use Rattle.h41_program.proofs.Outcomes.{written_outcome}
-use Rattle.h41_program.proofs.Cases.{not_both, same_error}
 
 -- Whether lines need an END.
 pub open_test : (packer : Packer) (lines : List Line) (answer : Bool) → Packs packer lines
@@ -25,45 +24,24 @@ open_test packer lines answer packs is = is ∙ ap (λ (o : Option Line). option
 pub open_ok : (before : Option (List ListedLine)) (first : Result Packer ProgramRefusal) (packer : Packer) (answer : Bool)
     → MatchOption before (first ≡ Err BrokenProgram) (λ listed. IsOkAnd first (λ held. Packs held (lines_of listed))) → first ≡ Ok packer
     → answer ≡ option_map_or (λ line. not (is_end line)) packer.last false → Ok answer ≡ open_before before
-open_ok None first packer answer matches ok is = absurd (not_both first packer BrokenProgram ok matches)
-open_ok (Some listed) first packer answer matches ok is =
-    let packs : IsOkAnd {E = ProgramRefusal} (Ok packer) (λ held. Packs held (lines_of listed)) =
-    subst (λ (r : Result Packer ProgramRefusal). IsOkAnd r (λ held. Packs held (lines_of listed))) ok matches in
-    ap (λ (b : Bool). Ok b) (open_test packer (lines_of listed) answer packs is)
+open_ok before first packer answer matches ok is = search (rules, open_test)
 
 pub open_err : (before : Option (List ListedLine)) (first : Result Packer ProgramRefusal) (refusal : ProgramRefusal)
     → MatchOption before (first ≡ Err BrokenProgram) (λ listed. IsOkAnd first (λ held. Packs held (lines_of listed))) → first ≡ Err refusal
     → Err refusal ≡ open_before before
-open_err None first refusal matches err = ap (λ (why : ProgramRefusal). Err why) (same_error first refusal BrokenProgram err matches)
-open_err (Some listed) first refusal matches err =
-    absurd (subst (λ (r : Result Packer ProgramRefusal). IsOkAnd r (λ held. Packs held (lines_of listed))) err matches)
-
-pub closed_none : (old : RegisterMap) (lines : List Line) → is_open lines ≡ false → HasOutcome old old (Ok tt) (close_outcome old lines)
-closed_none old lines other = rw other (refl, refl)
+open_err before first refusal matches err = search rules
 
 pub closed_some : (old left : RegisterMap) (result : Result (Unit {0}) ProgramRefusal) (lines : List Line) → is_open lines ≡ true
     → HasOutcome old left result (memory_with_answer tt (with_program_lines old (with_last_end lines)))
     → HasOutcome old left result (close_outcome old lines)
-closed_some old left result lines some has =
-    subst (λ (b : Bool). HasOutcome old left result (if b then memory_with_answer tt (with_program_lines old (with_last_end lines)) else Ok
-    (old, tt))) (sym some) has
+closed_some old left result lines some has = search rules
 
 pub close_ok : (old left : RegisterMap) (before : Option (List ListedLine))
     (first : Result Packer ProgramRefusal) (packer : Packer) (result : Result (Unit {0}) ProgramRefusal)
     → MatchOption before (first ≡ Err BrokenProgram) (λ listed. IsOkAnd first (λ held. Packs held (lines_of listed))) → first ≡ Ok packer
     → ((lines : List Line) → Packs packer lines → HasOutcome old left result (close_outcome old lines))
     → HasOutcome old left result (close_behind old before)
-close_ok old left None first packer result matches ok closes = absurd (not_both first packer BrokenProgram ok matches)
-close_ok old left (Some listed) first packer result matches ok closes =
-    closes (lines_of listed) (subst (λ (r : Result Packer ProgramRefusal). IsOkAnd r (λ held. Packs held (lines_of listed))) ok matches)
-
-pub close_err : (old : RegisterMap) (before : Option (List ListedLine)) (first : Result Packer ProgramRefusal) (refusal : ProgramRefusal)
-    → MatchOption before (first ≡ Err BrokenProgram) (λ listed. IsOkAnd first (λ held. Packs held (lines_of listed))) → first ≡ Err refusal
-    → HasOutcome {A = Unit {0}} old old (Err refusal) (close_behind old before)
-close_err old None first refusal matches err =
-    (ap (λ (why : ProgramRefusal). Err why) (same_error first refusal BrokenProgram err matches), refl)
-close_err old (Some listed) first refusal matches err =
-    absurd (subst (λ (r : Result Packer ProgramRefusal). IsOkAnd r (λ held. Packs held (lines_of listed))) err matches)
+close_ok old left before first packer result matches ok closes = search rules
 
 -- The memory after closing is sound.
 outcome_sound : (b : Bool) (old left : RegisterMap) (result : Result (Unit {0}) ProgramRefusal) (lines : List Line) → is_sound old ≡ true

@@ -1,10 +1,9 @@
 -- Memories with the same program.
-use Rattle.std.proofs.Common.{◌≡◌, ℕ, ◌-◌, ◌/◌, ◌%◌, ◌<◌, Bool, true, false, List, refl, sym, ◌∙◌, ap, subst, arith, Ok, Err}
+use Rattle.std.proofs.Common.{◌≡◌, ℕ, ◌-◌, ◌<◌, Bool, true, List, sym, ◌∙◌, ap, subst, arith, Ok, Err, rules}
 use Rattle.std.specs.Prelude.{◌⊎◌, MatchBool}
 use Rattle.std.proofs.lemmas.List.{ext_get_or}
 use Rattle.std.proofs.lemmas.List.FromFn.{get_or-map-range_with_len, length-map-range_with_len}
-use Rattle.h41_digits.specs.Register.{byte_at}
-use Rattle.h41_ram.specs.RegisterMap.{RegisterMap, register_at, curtain_of, end_of, constant_of, is_sound, is_final_end, three_digits}
+use Rattle.h41_ram.specs.RegisterMap.{RegisterMap, curtain_of, end_of, constant_of, is_sound, three_digits}
 use Rattle.h41_program.specs.declared.listed_line.ListedLine.{ListedLine}
 use Rattle.h41_ram.specs.RamState.{SameProgram}
 use Rattle.h41_program.specs.Dependence.{AnswersDepend, SoundnessDepends, ListsDepend, FirstsDepend, NonesDepend}
@@ -13,7 +12,6 @@ use Rattle.h41_program.specs.Lines.{is_final_end as ends_list}
 use Rattle.h41_program.specs.ProgramBytes.{byte_count, program_byte, program_bytes, final_position}
 use Rattle.h41_program.specs.FirstLines.{behind, FirstFrom, IsFirst, NoneFrom}
 use Rattle.h41_program.specs.ProgramLines.{Reads}
-use Rattle.h41_program.specs.Searches.{start_in}
 use Rattle.h41_program.proofs.Addresses.{sound_by}
 use Rattle.h41_program.proofs.Sound.{bounds, constant, ends}
 
@@ -28,24 +26,10 @@ module _ (memory other : RegisterMap) (agree : SameProgram memory other) where
   same_constant = ap (λ (c : List ℕ). three_digits c 6) agree.c
 
   pub agrees_back : SameProgram other memory
-  agrees_back = record {
-    size = sym agree.size;
-    c = sym agree.c;
-    program = λ address from below. sym (agree.program address (omega (arith, from, same_end)) (omega (arith, below, same_curtain)));
-  }
+  agrees_back = search (rules, same_end, same_curtain)
 
   pub sound_too : is_sound memory ≡ true → is_sound other ≡ true
-  sound_too sound =
-      let known = bounds memory sound in
-      let low = known.low in
-      let order = known.order in
-      let high = known.high in
-      let size = agree.size in
-      let last : register_at memory (end_of memory) ≡ register_at other (end_of other) =
-      agree.program (end_of memory) (omega arith) order ∙ ap (register_at other) same_end in
-      sound_by other (sym same_constant ∙ constant memory sound) (omega (arith, low, same_end))
-      (omega (arith, order, same_end, same_curtain)) (omega (arith, high, size, same_curtain))
-      (ap is_final_end (sym last) ∙ ends memory sound)
+  sound_too sound = search (rules, bounds, same_end, sound_by, same_constant, constant, same_curtain, ends)
 
   same_count : byte_count memory ≡ byte_count other
   same_count = omega (arith, same_end, same_curtain)
@@ -54,10 +38,7 @@ module _ (memory other : RegisterMap) (agree : SameProgram memory other) where
   same_final = ap (λ n. n - 3) same_count
 
   same_byte : (p : ℕ) → p < byte_count memory → program_byte memory p ≡ program_byte other p
-  same_byte p inside =
-      ap (λ (register : List ℕ). byte_at register (6 - p % 7))
-      (agree.program (curtain_of memory - 1 - p / 7) (omega (arith, inside)) (omega (arith, inside))
-      ∙ ap (λ (curtain : ℕ). register_at other (curtain - 1 - p / 7)) same_curtain)
+  same_byte p inside = search (rules, same_curtain)
 
   pub same_bytes : program_bytes memory ≡ program_bytes other
   same_bytes =
@@ -76,9 +57,7 @@ module _ (memory other : RegisterMap) (agree : SameProgram memory other) where
       subst (λ (n : ℕ). P (program_bytes other) n) same_final (subst (λ (bytes : List ℕ). P bytes (final_position memory)) same_bytes holds)
 
 same_test : (b c : Bool) → (b ≡ true → c ≡ true) → (c ≡ true → b ≡ true) → b ≡ c
-same_test true c there back = sym (there refl)
-same_test false true there back = back refl
-same_test false false there back = refl
+same_test b c there back = search rules
 
 pub soundness : SoundnessDepends
 soundness memory other agree =
@@ -120,21 +99,7 @@ pub answers : {A : Type 0} → AnswersDepend A
 answers memory other answer at result agree is = (is.0, lists memory other at is.0 agree is.1, is.2)
 
 pub program : {A : Type 0} → ProgramDepends A
-program memory other answer at result agree is = record {
-  lines = is.lines;
-  own = is.own;
-  all = lists memory other 0 is.lines agree is.all;
-  program = lists memory other (start_in at is.lines) is.own agree is.program;
-  is = is.is;
-}
+program memory other answer at result agree is = search (rules, lists)
 
 pub local : LocalDepends
-local memory other at n result agree answers = record {
-  lines = answers.lines;
-  onward = answers.onward;
-  own = answers.own;
-  all = lists memory other 0 answers.lines agree answers.all;
-  from = lists memory other at answers.onward agree answers.from;
-  program = lists memory other (start_in at answers.lines) answers.own agree answers.program;
-  is = answers.is;
-}
+local memory other at n result agree answers = search (rules, answers, lists, program)

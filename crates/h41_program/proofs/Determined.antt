@@ -1,17 +1,16 @@
 -- The first line, the list of lines, outcomes and answers are determined.
-use Rattle.std.proofs.Common.{◌≡◌, ℕ, ◌<◌, Bool, List, [], ◌∷◌, length, get_or, refl, sym, ◌∙◌, ap, subst, arith, inl, inr, Option, Some}
-use Rattle.std.proofs.Common.{None, Result}
+use Rattle.std.proofs.Common.{◌≡◌, ℕ, ◌<◌, Bool, List, [], ◌∷◌, length, refl, sym, ◌∙◌, ap, subst, arith, inl, inr, Option}
+use Rattle.std.proofs.Common.{Result, rules}
 use Rattle.std.specs.Prelude.{MatchBool}
 use Rattle.std.proofs.lemmas.Bool.{cases_lt, cases_Bool}
 use Rattle.h41_codes.specs.ByteGrammar.{spelling, Begins}
 use Rattle.h41_codes.specs.ByteLaws.{OneLine}
 use Rattle.h41_codes.specs.declared.line.Line.{Line}
-use Rattle.h41_ram.specs.RegisterMap.{RegisterMap, is_sound}
+use Rattle.h41_ram.specs.RegisterMap.{RegisterMap}
 use Rattle.h41_program.specs.declared.listed_line.ListedLine.{ListedLine}
 use Rattle.h41_program.specs.declared.refusal.ProgramRefusal.{ProgramRefusal}
-use Rattle.h41_program.specs.Edits.{before_end, count_before, edit_outcome, PlacesAreDetermined, load_outcome, loaded_of, ChangeGives}
+use Rattle.h41_program.specs.Edits.{count_before, PlacesAreDetermined, ChangeGives}
 use Rattle.h41_program.specs.Edits.{LoadsBehind}
-use Rattle.h41_program.specs.Lines.{is_final_end}
 use Rattle.h41_program.specs.ProgramBytes.{program_bytes, final_position}
 use Rattle.h41_program.specs.ProgramLaws.{EditsAreDetermined, FirstIsDetermined, ListsAreDetermined, LoadsAreDetermined}
 use Rattle.h41_program.specs.FirstLines.{line_bytes, FirstFrom, ReadsTo, behind}
@@ -21,13 +20,7 @@ use Rattle.h41_program.proofs.Windows.{begins_least}
 -- A first line is never among the nulls that precede another one.
 not_before : OneLine → (bytes : List ℕ) (final at : ℕ) (first other : ListedLine) → FirstFrom bytes final at first
     → FirstFrom bytes final at other → first.position < other.position → ⊥
-not_before one bytes final at first other is is_other before =
-    let taken = line_bytes bytes final first.position in
-    let size = length (spelling first.line) in
-    let least = begins_least taken first.line size is.begins in
-    let null : get_or taken 0 0 ≡ 0 =
-    first_byte bytes final first.position (first_inside bytes final at first is) ∙ is_other.nulls first.position is.from before in
-    is.not_null (only_null one taken first.line size (omega (arith, least, is.begins.inside)) null is.begins)
+not_before one bytes final at first other is is_other before = search (rules, begins_least, first_byte, first_inside, only_null)
 
 same_position : OneLine → (bytes : List ℕ) (final at : ℕ) (first other : ListedLine) → FirstFrom bytes final at first
     → FirstFrom bytes final at other → first.position ≡ other.position
@@ -77,34 +70,21 @@ module _ (one : OneLine) (ends : Line → Bool) (bytes : List ℕ) (final : ℕ)
       ap (λ (l : ListedLine). l ∷ rest) same ∙ ap (λ (l : List ListedLine). other ∷ l) rests
 
 pub lists_determined : OneLine → ListsAreDetermined
-lists_determined one memory at lines others from again = elim (cases_Bool (is_sound memory)) [
-  | inl sound ↦
-      read_determined one is_final_end (program_bytes memory) (final_position memory) at lines others (from.sound sound)
-      (again.sound sound)
-  | inr lost ↦ from.lost lost ∙ sym (again.lost lost)
-]
+lists_determined one memory at lines others from again = search (rules, read_determined)
 
 loads_behind_determined : OneLine
     → (memory : RegisterMap) (bytes : List ℕ) (before : Option (List ListedLine)) (outcome other : Result (RegisterMap × ℕ) ProgramRefusal)
     → LoadsBehind memory bytes before outcome → LoadsBehind memory bytes before other → outcome ≡ other
-loads_behind_determined one memory bytes None outcome other loads again = loads ∙ sym again
-loads_behind_determined one memory bytes (Some lines) outcome other loads again =
-    let same = read_determined one is_final_end bytes (length bytes) 0 loads.0 again.0 loads.1 again.1 in
-    loads.2 ∙ ap (λ (given : List ListedLine). load_outcome memory lines (loaded_of bytes given)) same ∙ sym again.2
+loads_behind_determined one memory bytes before outcome other loads again = search (rules, read_determined)
 
 pub loads_determined : OneLine → LoadsAreDetermined
-loads_determined one memory bytes outcome other loads again =
-    let same = lists_determined one memory 0 loads.0 again.0 loads.1 again.1 in
-    loads_behind_determined one memory bytes (before_end again.0) outcome other
-    (subst (λ (lines : List ListedLine). LoadsBehind memory bytes (before_end lines) outcome) same loads.2) again.2
+loads_determined one memory bytes outcome other loads again = search (rules, lists_determined, loads_behind_determined)
 
 changes_determined : OneLine
     → (memory : RegisterMap) (change : ListedLine → List Line) (position : ℕ)
     (outcome other : Result (RegisterMap × Unit {0}) ProgramRefusal)
     → ChangeGives memory change position outcome → ChangeGives memory change position other → outcome ≡ other
-changes_determined one memory change position outcome other gives again =
-    let same = lists_determined one memory 0 gives.0 again.0 gives.1 again.1 in
-    gives.2 ∙ ap (λ (lines : List ListedLine). edit_outcome memory change position lines) same ∙ sym again.2
+changes_determined one memory change position outcome other gives again = search (rules, lists_determined)
 
 pub edits_determined : OneLine → EditsAreDetermined
 edits_determined one memory change at outcome other gives again = elim gives [

@@ -1,10 +1,9 @@
 -- The answer of a change that was made.
-use Rattle.std.proofs.Common.{◌≡◌, ℕ, zero, suc, Bool, true, false, List, [], ◌∷◌, ◌++◌, refl, sym, ◌∙◌, ap, subst, inl, inr, Option, Some}
-use Rattle.std.proofs.Common.{None, Result, Ok, Err}
-use Rattle.std.specs.Prelude.{◌&&◌, is_some, slice_get}
+use Rattle.std.proofs.Common.{◌≡◌, ℕ, zero, suc, Bool, true, List, [], ◌∷◌, ◌++◌, refl, sym, ◌∙◌, ap, subst, Option, Some}
+use Rattle.std.proofs.Common.{None, Ok, rules}
+use Rattle.std.specs.Prelude.{is_some, slice_get}
 use Rattle.std.specs.List.{flat_map}
 use Rattle.std.specs.Option.{option_map}
-use Rattle.std.proofs.lemmas.Bool.{true≢false}
 use Rattle.std.proofs.lemmas.Option.{none-some, same_Some, slice_get-map}
 use Rattle.h41_codes.specs.ByteLaws.{ByteRoundTrip, OneLine}
 use Rattle.h41_codes.specs.declared.line.Line.{Line}
@@ -16,10 +15,8 @@ use Rattle.h41_program.specs.declared.editing.Placement.{Placement}
 use Rattle.h41_program.specs.declared.editing.Placement.TheVariants.{Before, Instead}
 use Rattle.h41_program.specs.declared.listed_line.ListedLine.{ListedLine}
 use Rattle.h41_program.specs.declared.reading.Found.{Found}
-use Rattle.h41_program.specs.declared.refusal.ProgramRefusal.{ProgramRefusal}
-use Rattle.h41_program.specs.declared.refusal.ProgramRefusal.TheVariants.{BrokenProgram}
-use Rattle.h41_program.specs.Edits.{AnswersChanged, Edits, LeavesChanged, Stands, StandsBefore, StandsNew, before_end, changed_outcome}
-use Rattle.h41_program.specs.Edits.{count_before, edit_outcome, has_line_at, lines_of, position_in_front, position_behind}
+use Rattle.h41_program.specs.Edits.{AnswersChanged, Edits, LeavesChanged, Stands, StandsBefore, StandsNew, changed_outcome}
+use Rattle.h41_program.specs.Edits.{count_before, has_line_at, lines_of, position_in_front, position_behind}
 use Rattle.h41_program.specs.private.EditSteps.{Counts, lines_of_change, listed_of}
 use Rattle.h41_program.specs.ProgramLaws.{IsInner}
 use Rattle.h41_program.specs.ProgramBytes.{program_bytes, final_position}
@@ -32,15 +29,11 @@ use Rattle.h41_program.proofs.Inner.{KeepsInner, inserted_inner, replaced_inner}
 use Rattle.h41_program.proofs.NewLines.{Begins, Keeps, get_first, inserted_begins, inserted_keeps, new_there, replaced_begins}
 use Rattle.h41_program.proofs.NewLines.{replaced_keeps}
 use Rattle.h41_program.proofs.Outcomes.{edit_read}
-use Rattle.h41_program.proofs.Sound.{and_second}
+use Rattle.std.proofs.lemmas.Bool.Decides.{nat_tests}
 
 -- A change that was made had a line to be changed.
 was_made : (b : Bool) (old new : RegisterMap) (lines : List Line) → HasOutcome old new (Ok tt) (changed_outcome b old lines) → b ≡ true
-was_made true old new lines has = refl
-was_made false old new lines has = absurd (refused has.0)
-  where
-    refused : ◌≡◌ {A = Result (Unit {0}) ProgramRefusal} (Ok tt) (Err BrokenProgram) → ⊥
-    refused same = cc
+was_made b old new lines has = search rules
 
 pub record HadLine (old : RegisterMap) (at : ℕ) : Type 0 where
   pub first : ListedLine
@@ -50,25 +43,7 @@ pub record HadLine (old : RegisterMap) (at : ℕ) : Type 0 where
   pub has : has_line_at first.position lines ≡ true
 
 edit_had : (old new : RegisterMap) (change : ℕ → ListedLine → List Line) (at : ℕ) → Edits old new change at (Ok tt) → HadLine old at
-edit_had old new change at edits = elim edits.1 [
-  | inl edit ↦
-      let outcome : HasOutcome old new (Ok tt) (edit_outcome old (change edit.0.position) edit.0.position edit.2.0) =
-      subst (λ (o : Result (RegisterMap × Unit {0}) ProgramRefusal). HasOutcome old new (Ok tt) o) edit.2.2 edits.2 in
-      let reached =
-      was_made (is_some (before_end edit.2.0) && has_line_at edit.0.position edit.2.0)
-      old new (flat_map (change edit.0.position) edit.2.0) outcome in
-      record {
-        first = edit.0;
-        lines = edit.2.0;
-        stands = edit.1;
-        from = edit.2.1;
-        has = and_second (is_some (before_end edit.2.0)) (has_line_at edit.0.position edit.2.0) reached;
-      }
-  | inr none ↦
-      let outcome : HasOutcome old new (Ok tt) (Err BrokenProgram) =
-      subst (λ (o : Result (RegisterMap × Unit {0}) ProgramRefusal). HasOutcome old new (Ok tt) o) none.1 edits.2 in
-      absurd (true≢false (sym (was_made false old new [] outcome)))
-]
+edit_had old new change at edits = search (rules, was_made, nat_tests)
 
 -- Lines of a longer list, and of one with positions.
 get_front : (xs ys : List Line) (k : ℕ) (x : Line) → slice_get xs k ≡ Some x → slice_get (xs ++ ys) k ≡ Some x
@@ -93,16 +68,8 @@ pub record PutsAt (line : Line) (change : ℕ → ListedLine → List Line) : Ty
   pub inner : (place : ℕ) → KeepsInner (change place)
 
 pub put_there : (line : Line) (placement : Placement) → IsInner line → PutsAt line (lines_of_change (Put line placement))
-put_there line Before inner = record {
-  begins = inserted_begins line;
-  keeps = inserted_keeps line;
-  inner = λ place. inserted_inner line place inner;
-}
-put_there line Instead inner = record {
-  begins = replaced_begins line;
-  keeps = replaced_keeps line;
-  inner = λ place. replaced_inner line place inner;
-}
+put_there line Before inner = search (rules, inserted_begins, inserted_keeps, inserted_inner)
+put_there line Instead inner = search (rules, replaced_begins, replaced_keeps, replaced_inner)
 
 -- After such a change as many lines precede the new line.
 pub record LeavesNew (old : RegisterMap) (change : ℕ → ListedLine → List Line)
@@ -162,15 +129,7 @@ module _ (old new : RegisterMap) (at count : ℕ) (counts : Counts old at count)
     (listed : List ListedLine) (read : LinesFrom new 0 listed) where
   answers_changed : {A : Type 0} (answer : ℕ → List ListedLine → A) (result : A) → result ≡ answer count listed
       → AnswersChanged answer old at new result
-  answers_changed answer result is = record {
-    first = counts.first;
-    lines = counts.lines;
-    listed = listed;
-    stands = counts.stands;
-    from = counts.from;
-    read = read;
-    is = is ∙ ap (λ (n : ℕ). answer n listed) counts.is;
-  }
+  answers_changed answer result is = search rules
 
   pub stands_new : (found : ListedLine) → Some found ≡ slice_get listed count → StandsNew old at new found.position
   stands_new found is = answers_changed position_behind (Some found.position) (ap position_of is)

@@ -1,6 +1,6 @@
 -- Lines that are counted before a change, and found after it.
-use Rattle.std.proofs.Common.{◌≡◌, ℕ, zero, suc, ◌+◌, ◌-◌, ◌<◌, ◌≤◌, List, [], ◌∷◌, ◌++◌, length, refl, sym, ◌∙◌, ap, subst, arith, inl}
-use Rattle.std.proofs.Common.{inr, Option, Some}
+use Rattle.std.proofs.Common.{◌≡◌, ℕ, suc, ◌+◌, ◌-◌, ◌<◌, ◌≤◌, List, [], ◌∷◌, ◌++◌, length, refl, sym, ◌∙◌, ap, subst, arith, inl}
+use Rattle.std.proofs.Common.{inr, Option, Some, rules}
 use Rattle.std.specs.Prelude.{cond, nat_lt, slice_get}
 use Rattle.std.specs.Option.{option_map_or}
 use Rattle.std.proofs.lemmas.Bool.{cases_Bool, le-ltb, lt-ltb}
@@ -73,10 +73,7 @@ count_stops bytes final place at next before rest lines listed is above whole re
 -- The last of this many lines, if there are any.
 pub in_front : (count : ℕ) (lines : List ListedLine) (last : Option ListedLine) → (count ≡ 0 → ⊥) → last ≡ slice_get lines (count - 1)
     → option_map_or front_behind last (Start 0) ≡ position_in_front count lines
-in_front zero lines last some is = absurd (some refl)
-in_front (suc n) lines last some is =
-    let less : suc n - 1 ≡ n = omega arith in
-    ap (λ (o : Option ListedLine). option_map_or front_behind o (Start 0)) (is ∙ ap (slice_get lines) less)
+in_front count lines last some is = search rules
 
 -- The line after others.
 pub get_behind : (before : List ListedLine) (listed : ListedLine) (rest : List ListedLine)

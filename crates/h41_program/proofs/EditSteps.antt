@@ -1,6 +1,6 @@
 -- Changing the list line by line.
 use Rattle.std.proofs.Common.{◌≡◌, ℕ, Bool, true, false, List, [], ◌∷◌, ◌++◌, refl, sym, ◌∙◌, ap, subst, inl, inr, append-nil, append_assoc}
-use Rattle.std.proofs.Common.{Result, Ok, Err}
+use Rattle.std.proofs.Common.{Result, Ok, Err, rules}
 use Rattle.std.specs.Prelude.{◌&&◌, ◌||◌, ◌==◌, is_some, IsOkAnd, MatchBool, if◌then◌else◌}
 use Rattle.std.specs.List.{flat_map}
 use Rattle.std.proofs.lemmas.Grind.{flat_map-append}
@@ -24,29 +24,15 @@ use Rattle.h41_program.specs.FirstLines.{FirstFrom, IsFirst, NoneFrom}
 use Rattle.h41_program.specs.ProgramLines.{HasNoLine, Reads}
 use Rattle.h41_program.specs.Rewriting.{HasOutcome, with_program_lines}
 use Rattle.h41_program.proofs.Walks.{UpTo, ends_none, ends_final, before_end-none, before_end-final}
-use Rattle.h41_program.proofs.Cases.{not_both}
-
-or_false : (b : Bool) → (b || false) ≡ b
-or_false true = refl
-or_false false = refl
 
 pub has_line_at-more : (place : ℕ) (before : List ListedLine) (listed : ListedLine)
     → has_line_at place (before ++ listed ∷ []) ≡ (has_line_at place before || (listed.position == place))
-has_line_at-more place before listed =
-    list_any-append (λ each. each.position == place) before (listed ∷ [])
-    ∙ ap (λ (b : Bool). has_line_at place before || b) (or_false (listed.position == place))
+has_line_at-more place before listed = search (rules, list_any-append)
 
 pub changed-more : (change : ListedLine → List Line) (before : List ListedLine) (listed : ListedLine)
     → flat_map change (before ++ listed ∷ []) ≡ flat_map change before ++ change listed
 changed-more change before listed =
     flat_map-append change before (listed ∷ []) ∙ ap (λ (l : List Line). flat_map change before ++ l) (append-nil (change listed))
-
--- A line that remains, and .END.
-own_line-other : (listed : ListedLine) → is_final_end listed.line ≡ false → own_line listed ≡ listed.line ∷ []
-own_line-other listed other = rw other refl
-
-own_line-final : (listed : ListedLine) → is_final_end listed.line ≡ true → own_line listed ≡ []
-own_line-final listed final = rw final refl
 
 -- The lines after a change at a line, which is the one to be changed or not.
 abbrev made : Change → Bool → ListedLine → List Line
@@ -54,53 +40,26 @@ made (Put line Before) here listed = (if here then line ∷ [] else []) ++ own_l
 made (Put line Instead) here listed = if here then line ∷ [] else own_line listed
 made Delete here listed = if here then [] else own_line listed
 
-is_made : (change : Change) (place : ℕ) (listed : ListedLine) → lines_of_change change place listed
-    ≡ made change (listed.position == place) listed
-is_made (Put line Before) place listed = refl
-is_made change place listed = refl
-
 made_other : (change : Change) (here : Bool) (listed : ListedLine) → is_final_end listed.line ≡ false
     → new_part here change ++ line_if (is_kept here change) listed.line ≡ made change here listed
-made_other (Put line Before) true listed other = ap (λ (l : List Line). line ∷ l) (sym (own_line-other listed other))
-made_other (Put line Before) false listed other = sym (own_line-other listed other)
-made_other (Put line Instead) true listed other = refl
-made_other (Put line Instead) false listed other = sym (own_line-other listed other)
-made_other Delete true listed other = refl
-made_other Delete false listed other = sym (own_line-other listed other)
+made_other change here listed other = search rules
 
 made_final : (change : Change) (here : Bool) (listed : ListedLine) → is_final_end listed.line ≡ true
     → new_part here change ≡ made change here listed
-made_final (Put line Before) true listed final = ap (λ (l : List Line). line ∷ l) (sym (own_line-final listed final))
-made_final (Put line Before) false listed final = sym (own_line-final listed final)
-made_final (Put line Instead) true listed final = refl
-made_final (Put line Instead) false listed final = sym (own_line-final listed final)
-made_final Delete true listed final = refl
-made_final Delete false listed final = sym (own_line-final listed final)
+made_final change here listed final = search rules
 
 -- One more line, and .END.
 pub one_packs : (packer : Packer) (change : Change) (place : ℕ) (before : List ListedLine) (listed : ListedLine) (here kept : Bool)
     → here ≡ (listed.position == place) → kept ≡ is_kept here change → is_final_end listed.line ≡ false
     → Packs packer ((flat_map (lines_of_change change place) before ++ new_part here change) ++ line_if kept listed.line)
     → Packs packer (flat_map (lines_of_change change place) (before ++ listed ∷ []))
-one_packs packer change place before listed here kept is keeps other packs =
-    subst (λ (l : List Line). Packs packer l)
-    (append_assoc (flat_map (lines_of_change change place) before) (new_part here change) (line_if kept listed.line)
-    ∙ ap (λ (l : List Line). flat_map (lines_of_change change place) before ++ l)
-    (ap (λ (b : Bool). new_part here change ++ line_if b listed.line) keeps ∙ made_other change here listed other
-    ∙ ap (λ (b : Bool). made change b listed) is ∙ sym (is_made change place listed))
-    ∙ sym (changed-more (lines_of_change change place) before listed))
-    packs
+one_packs packer change place before listed here kept is keeps other packs = search (rules, append_assoc, made_other, changed-more)
 
 pub last_packs : (packer : Packer) (change : Change) (place : ℕ) (before : List ListedLine) (listed : ListedLine) (here : Bool)
     → here ≡ (listed.position == place) → is_final_end listed.line ≡ true
     → Packs packer (flat_map (lines_of_change change place) before ++ new_part here change)
     → Packs packer (flat_map (lines_of_change change place) (before ++ listed ∷ []))
-last_packs packer change place before listed here is final packs =
-    subst (λ (l : List Line). Packs packer l)
-    (ap (λ (l : List Line). flat_map (lines_of_change change place) before ++ l)
-    (made_final change here listed final ∙ ap (λ (b : Bool). made change b listed) is ∙ sym (is_made change place listed))
-    ∙ sym (changed-more (lines_of_change change place) before listed))
-    packs
+last_packs packer change place before listed here is final packs = search (rules, made_final, changed-more)
 
 -- The list was read so far, and each line changed.
 pub record Changed (bytes : List ℕ) (final : ℕ) (packer : Packer) (met : Bool)
@@ -135,9 +94,7 @@ pub changed_none : (bytes : List ℕ) (final at : ℕ) (change : ListedLine → 
     → MatchBool (is_some (before_end lines) && has_line_at place lines)
     (IsOkAnd {E = ProgramRefusal} (Err BrokenProgram) (λ held. Packs held (flat_map change lines)))
     (◌≡◌ {A = Result Packer ProgramRefusal} (Err BrokenProgram) (Err BrokenProgram))
-changed_none bytes final at change place before lines upto none reads =
-    let end = ap before_end (ends_none bytes final 0 at before lines upto none reads) ∙ before_end-none bytes final 0 at before upto in
-    rw end refl
+changed_none bytes final at change place before lines upto none reads = search (rules, ends_none, before_end-none)
 
 -- The changed lines are written.
 pub changed_written : (old new : RegisterMap) (change : ListedLine → List Line) (place : ℕ) (lines : List ListedLine)
@@ -145,23 +102,13 @@ pub changed_written : (old new : RegisterMap) (change : ListedLine → List Line
     → MatchBool b (IsOkAnd result (λ held. Packs held (flat_map change lines))) (result ≡ Err BrokenProgram) → result ≡ Ok packer
     → ((all : List Line) → Packs packer all → HasOutcome old new wrote (memory_with_answer tt (with_program_lines old all)))
     → HasOutcome old new wrote (changed_outcome b old (flat_map change lines))
-changed_written old new change place lines result packer wrote true matches ok writes =
-    writes (flat_map change lines)
-    (subst (λ (r : Result Packer ProgramRefusal). IsOkAnd r (λ held. Packs held (flat_map change lines))) ok matches)
-changed_written old new change place lines result packer wrote false matches ok writes =
-    absurd (not_both result packer BrokenProgram ok matches)
+changed_written old new change place lines result packer wrote b matches ok writes = search rules
 
 pub changed_refused : (old : RegisterMap) (change : ListedLine → List Line) (lines : List ListedLine)
     (result : Result Packer ProgramRefusal) (refusal : ProgramRefusal) (b : Bool)
     → MatchBool b (IsOkAnd result (λ held. Packs held (flat_map change lines))) (result ≡ Err BrokenProgram) → result ≡ Err refusal
     → HasOutcome {A = Unit {0}} old old (Err refusal) (changed_outcome b old (flat_map change lines))
-changed_refused old change lines result refusal true matches err =
-    absurd (subst (λ (r : Result Packer ProgramRefusal). IsOkAnd r (λ held. Packs held (flat_map change lines))) err matches)
-changed_refused old change lines result refusal false matches err = (same_refusal result refusal err matches, refl)
-  where
-    same_refusal : (result : Result Packer ProgramRefusal) (refusal : ProgramRefusal) → result ≡ Err refusal → result ≡ Err BrokenProgram
-        → ◌≡◌ {A = Result (Unit {0}) ProgramRefusal} (Err refusal) (Err BrokenProgram)
-    same_refusal result refusal one other = let e : refusal ≡ BrokenProgram = cc in ap (λ (r : ProgramRefusal). Err r) e
+changed_refused old change lines result refusal b matches err = search rules
 
 -- The list is changed, or not.
 module _ (old : RegisterMap) (change : ℕ → ListedLine → List Line) (at : ℕ) where

@@ -1,6 +1,6 @@
 -- There is a list of lines from each position on.
-use Rattle.std.proofs.Common.{◌≡◌, ◌⊎◌, ℕ, zero, suc, ◌+◌, ◌-◌, ◌<◌, ◌≤◌, Bool, List, [], ◌∷◌, length, take, drop, get_or, refl, sym, ◌∙◌}
-use Rattle.std.proofs.Common.{ap, subst, arith, inl, inr, length-take, length-drop}
+use Rattle.std.proofs.Common.{◌≡◌, ◌⊎◌, ℕ, zero, suc, ◌+◌, ◌<◌, ◌≤◌, Bool, List, [], ◌∷◌, length, get_or, refl, sym, ◌∙◌}
+use Rattle.std.proofs.Common.{subst, arith, inl, inr, length-take, length-drop, rules}
 use Rattle.std.specs.Prelude.{MatchBool}
 use Rattle.std.proofs.lemmas.Bool.{cases_lt, cases_Bool, true≢false}
 use Rattle.h41_codes.specs.ByteGrammar.{spelling, Begins}
@@ -18,6 +18,7 @@ use Rattle.h41_program.proofs.Determined.{lists_determined}
 use Rattle.h41_program.proofs.FirstLines.{line_bytes-at, line_bytes-below, first_inside, first_byte, null_begins, null_byte}
 use Rattle.h41_program.proofs.Windows.{begins_count, begins_least}
 use Rattle.h41_program.proofs.Walks.{from_reads}
+use Rattle.std.proofs.lemmas.Grind.{common_steps}
 
 -- A line is the null or not.
 null_or : (line : Line) → (line ≡ Null) ⊎ (line ≡ Null → ⊥)
@@ -26,30 +27,13 @@ null_or line = inr (λ same. cc)
 
 -- There are no bytes after the last.
 no_more : (bytes : List ℕ) (final position : ℕ) → position ≤ final → length bytes ≤ position → length (line_bytes bytes final position) ≡ 0
-no_more bytes final position inside above = elim (cases_lt position final) [
-  | inl before ↦
-      ap length (line_bytes-below bytes final position before)
-      ∙ let all : length (take (final - position) (drop position bytes)) ≡ 0 =
-      omega (arith, above, length-take (final - position) (drop position bytes), length-drop position bytes) in all
-  | inr last ↦
-      let same : position ≡ final = omega (arith, inside, last) in
-      ap length (ap (line_bytes bytes final) same ∙ line_bytes-at bytes final) ∙ let all : length (drop final bytes) ≡ 0 =
-      omega (arith, above, same, length-drop final bytes) in all
-]
+no_more bytes final position inside above = search (rules, line_bytes-below, length-take, length-drop, line_bytes-at)
 
 -- If a line begins further on, there is a byte to read.
 byte_to_take : (bytes : List ℕ) (final at from : ℕ) (first : ListedLine) → FirstFrom bytes final from first → at < first.position
     → 1 ≤ length (line_bytes bytes final at)
 byte_to_take bytes final at from first is before =
-    let inside = first_inside bytes final from first is in
-    let least = begins_least (line_bytes bytes final first.position) first.line (length (spelling first.line)) is.begins in
-    let some = is.begins.inside in
-    let there : first.position < length bytes = elim (cases_lt first.position (length bytes)) [
-      | inl below ↦ below
-      | inr above ↦ let none = no_more bytes final first.position inside above in absurd (omega (arith, least, some, none))
-    ] in
-    rw (line_bytes-below bytes final at (omega (arith, inside, before)))
-    (omega (arith, inside, before, there, length-take (final - at) (drop at bytes), length-drop at bytes))
+    search (rules, first_inside, begins_least, no_more, line_bytes-below, length-take, length-drop)
 
 module _ (one : OneLine) (tells : LineOrNone) (bytes : List ℕ) (final : ℕ) where
   -- If the first line begins further on, there is a null at the position.
@@ -60,30 +44,14 @@ module _ (one : OneLine) (tells : LineOrNone) (bytes : List ℕ) (final : ℕ) w
       (first_byte bytes final at (omega (arith, inside, before)) ∙ is.nulls at (omega arith) before)
 
   further : (at : ℕ) (first : ListedLine) → FirstFrom bytes final at first → at < first.position → FirstFrom bytes final (at + 1) first
-  further at first is before = record {
-    from = omega (arith, before);
-    nulls = λ k low high. is.nulls k (omega (arith, low)) high;
-    begins = is.begins;
-    not_null = is.not_null;
-  }
+  further at first is before = search rules
 
   back : (at : ℕ) (first : ListedLine) → get_or bytes at 0 ≡ 0 → FirstFrom bytes final (at + 1) first → FirstFrom bytes final at first
-  back at first null is = record {
-    from = let from = is.from in omega (arith, from);
-    nulls = λ k low high. elim (cases_lt at k) [
-      | inl above ↦ is.nulls k (omega (arith, above)) high
-      | inr here ↦ let same : k ≡ at = omega (arith, here, low) in ap (λ n. get_or bytes n 0) same ∙ null
-    ];
-    begins = is.begins;
-    not_null = is.not_null;
-  }
+  back at first null is = search rules
 
   -- The first line begins at the position or further on.
   here_or_further : (at : ℕ) (first : ListedLine) → FirstFrom bytes final at first → (first.position ≡ at) ⊎ (at < first.position)
-  here_or_further at first is = elim (cases_lt at first.position) [
-    | inl before ↦ inr before
-    | inr here ↦ let from = is.from in inl (omega (arith, from, here))
-  ]
+  here_or_further at first is = search rules
 
   abbrev taken : ℕ → List ℕ
   taken at = line_bytes bytes final at
@@ -95,22 +63,12 @@ module _ (one : OneLine) (tells : LineOrNone) (bytes : List ℕ) (final : ℕ) w
   -- A line begins at the position.
   line_here : (at count : ℕ) (line : Line) → Begins (taken at) line count → (line ≡ Null → ⊥)
       → FirstFrom bytes final at (record { position = at; line = line })
-  line_here at count line begins other = record {
-    from = omega arith;
-    nulls = λ k low high. absurd (omega (arith, low, high));
-    begins = subst (λ (n : ℕ). Begins (taken at) line n) (begins_count (taken at) line count begins) begins;
-    not_null = other;
-  }
+  line_here at count line begins other = search (rules, begins_count)
 
   -- A null begins at the position.
   null_here : (at count : ℕ) (line : Line) → Begins (taken at) line count → line ≡ Null → (first : ListedLine)
       → FirstFrom bytes final at first → at < first.position
-  null_here at count line begins null first is = elim (here_or_further at first is) [
-    | inl here ↦
-        absurd
-        (is.not_null ((one (taken at) first.line line (length (spelling first.line)) count (begins_here at first is here) begins).0 ∙ null))
-    | inr before ↦ before
-  ]
+  null_here at count line begins null first is = search (rules, here_or_further, begins_here)
 
   none_here : (at : ℕ) → ((line : Line) (count : ℕ) → Begins (taken at) line count → ⊥) → NoneFrom bytes final at
   none_here at none first is = elim (here_or_further at first is) [
@@ -123,10 +81,7 @@ module _ (one : OneLine) (tells : LineOrNone) (bytes : List ℕ) (final : ℕ) w
 
   -- There is a first line from a position on, or none.
   pub first_or_none : (n at : ℕ) → final < at + n → ((first : ListedLine) × FirstFrom bytes final at first) ⊎ NoneFrom bytes final at
-  first_or_none zero at past = inr (λ first is.
-      let inside = first_inside bytes final at first is in
-      let from = is.from in
-      omega (arith, past, inside, from))
+  first_or_none zero at past = grind (arith, common_steps, first_inside, none_here, line_here, null_at, further)
   first_or_none (suc n) at past = elim (tells (taken at)) [
     | inr none ↦ inr (none_here at none)
     | inl found ↦ elim (null_or found.0) [
@@ -146,13 +101,7 @@ module _ (one : OneLine) (tells : LineOrNone) (bytes : List ℕ) (final : ℕ) w
 
   -- The lines from a position on.
   pub reads_some : (ends : Line → Bool) (n at : ℕ) → final < at + n → (lines : List ListedLine) × ReadsTo ends bytes final at lines
-  reads_some ends zero at past = (
-    [],
-    λ first is.
-        let inside = first_inside bytes final at first is in
-        let from = is.from in
-        omega (arith, past, inside, from),
-  )
+  reads_some ends zero at past = search (rules, first_inside, first_or_none, begins_least)
   reads_some ends (suc n) at past = elim (first_or_none (suc n) at past) [
     | inr none ↦ ([], none)
     | inl first ↦ elim (cases_Bool (ends first.0.line)) [

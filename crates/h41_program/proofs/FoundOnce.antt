@@ -1,7 +1,6 @@
 -- The answers of searches are determined, and are those of the list.
-use Rattle.std.proofs.Common.{◌≡◌, ℕ, Bool, true, false, List, [], ◌∷◌, sym, ◌∙◌, ap, subst, inl, inr, Ok, Err}
+use Rattle.std.proofs.Common.{◌≡◌, ℕ, Bool, true, false, List, [], ◌∷◌, sym, ◌∙◌, ap, subst, inl, inr, Ok, Err, rules}
 use Rattle.std.specs.Prelude.{MatchBool}
-use Rattle.std.specs.Option.{option_or}
 use Rattle.std.proofs.lemmas.Bool.{cases_Bool}
 use Rattle.h41_codes.specs.ByteLaws.{OneLine}
 use Rattle.h41_ram.specs.RegisterMap.{RegisterMap}
@@ -10,10 +9,9 @@ use Rattle.h41_program.specs.declared.refusal.ProgramRefusal.{ProgramRefusal}
 use Rattle.h41_program.specs.Lines.{is_final_end}
 use Rattle.h41_program.specs.ProgramBytes.{program_bytes, final_position}
 use Rattle.h41_program.specs.FirstLines.{FirstFrom, behind}
-use Rattle.h41_program.specs.ProgramLines.{LinesFrom, PositionBehind, PositionFrom, Reads, line_of, next_of}
+use Rattle.h41_program.specs.ProgramLines.{PositionBehind, PositionFrom, Reads, line_of, next_of}
 use Rattle.h41_program.specs.SearchLaws.{AnswersAreDetermined, LineIsDetermined, LineIsOfList, LocalIsDetermined, NextIsDetermined}
 use Rattle.h41_program.specs.SearchLaws.{NextIsOfList, ProgramIsDetermined}
-use Rattle.h41_program.specs.Searches.{label_in, position_of, start_in, up_to_end}
 use Rattle.h41_program.proofs.Determined.{first_determined, lists_determined}
 use Rattle.h41_program.proofs.Walks.{last_rest, more_rest, no_rest}
 
@@ -22,25 +20,14 @@ answers one memory answer at result other is again =
     is.2 ∙ ap answer (lists_determined one memory at is.0 again.0 is.1 again.1) ∙ sym again.2
 
 pub program : {A : Type 0} → OneLine → ProgramIsDetermined A
-program one memory answer at result other is again =
-    let lines = lists_determined one memory 0 is.lines again.lines is.all again.all in
-    let begin = subst (λ (all : List ListedLine). LinesFrom memory (start_in at all) is.own) lines is.program in
-    let own = lists_determined one memory (start_in at again.lines) is.own again.own begin again.program in
-    is.is ∙ ap (λ (l : List ListedLine). answer (up_to_end l)) own ∙ sym again.is
+program one memory answer at result other is again = search (rules, lists_determined)
 
 pub local : OneLine → LocalIsDetermined
-local one memory at n found other is again =
-    let lines = lists_determined one memory 0 is.lines again.lines is.all again.all in
-    let onward = lists_determined one memory at is.onward again.onward is.from again.from in
-    let begin = subst (λ (all : List ListedLine). LinesFrom memory (start_in at all) is.own) lines is.program in
-    let own = lists_determined one memory (start_in at again.lines) is.own again.own begin again.program in
-    is.is ∙ ap (λ (l : List ListedLine). position_of (option_or (label_in n l) (label_in n is.own))) onward
-    ∙ ap (λ (l : List ListedLine). position_of (option_or (label_in n again.onward) (label_in n l))) own ∙ sym again.is
+local one memory at n found other is again = search (rules, lists_determined, program)
 
 -- The line at a position is determined.
 pub one_line : OneLine → LineIsDetermined
-one_line one memory at (Ok first) (Ok other) is again =
-    ap (λ (line : ListedLine). Ok line) (first_determined one (program_bytes memory) (final_position memory) at first other is again)
+one_line one memory at (Ok first) (Ok other) is again = search (rules, first_determined)
 one_line one memory at (Ok first) (Err refusal) is none = absurd (none.1 first is)
 one_line one memory at (Err refusal) (Ok other) none is = absurd (none.1 other is)
 one_line one memory at (Err refusal) (Err other) none again = ap (λ (why : ProgramRefusal). Err why) (none.0 ∙ sym again.0)
@@ -96,10 +83,7 @@ module _ (one : OneLine) (memory : RegisterMap) (at : ℕ) where
 
   behind_other : (first : ListedLine) (rest : List ListedLine) (position : ℕ) → is_final_end first.line ≡ false
       → Reads bytes final (behind first) rest → PositionFrom memory (behind first) position → Ok position ≡ next_of (first ∷ rest)
-  behind_other first [] position other reads from = elim from [
-    | inl second ↦ absurd (reads second.0 second.1)
-    | inr none ↦ rw other (ap (λ (n : ℕ). Ok n) none.1)
-  ]
+  behind_other first [] position other reads from = search (rules, first_determined)
   behind_other first (next ∷ rest) position other reads from = elim from [
     | inl second ↦
         let same = first_determined one bytes final (behind first) second.0 next second.1 reads.0 in
@@ -124,13 +108,8 @@ module _ (one : OneLine) (memory : RegisterMap) (at : ℕ) where
 
 pub line : OneLine → LineIsOfList
 line one memory at (Ok first) lines sound answers from = ok_line one memory at first lines answers (from.sound sound)
-line one memory at (Err refusal) lines sound answers from =
-    ap (λ (why : ProgramRefusal). Err why) answers.0
-    ∙ sym (ap line_of (no_rest (program_bytes memory) (final_position memory) at lines answers.1 (from.sound sound)))
+line one memory at (Err refusal) lines sound answers from = search (rules, answers, ok_line, no_rest)
 
 pub next : OneLine → NextIsOfList
-next one memory at (Ok position) lines sound answers from =
-    ok_next one memory at answers.0 position lines answers.1 answers.2 (from.sound sound)
-next one memory at (Err refusal) lines sound answers from =
-    ap (λ (why : ProgramRefusal). Err why) answers.0
-    ∙ sym (ap next_of (no_rest (program_bytes memory) (final_position memory) at lines answers.1 (from.sound sound)))
+next one memory at (Ok position) lines sound answers from = search (rules, answers, ok_next, no_rest)
+next one memory at (Err refusal) lines sound answers from = search (rules, answers, ok_next, no_rest)

@@ -1,8 +1,7 @@
 -- The lines of given bytes.
-use Rattle.std.proofs.Common.{◌≡◌, ◌≢◌, ℕ, ◌+◌, ◌-◌, ◌<◌, ◌≤◌, List, length, drop, get_or, sym, ◌∙◌, ap, subst, arith, inl, inr, Result, Ok}
-use Rattle.std.proofs.Common.{Err}
+use Rattle.std.proofs.Common.{◌≡◌, ◌≢◌, ℕ, ◌+◌, ◌<◌, ◌≤◌, List, length, drop, get_or, sym, ◌∙◌, ap, subst, arith, Result, Ok}
+use Rattle.std.proofs.Common.{Err, rules}
 use Rattle.std.proofs.lemmas.List.{take_all, length-drop}
-use Rattle.std.proofs.lemmas.Bool.{cases_lt}
 use Rattle.h41_codes.specs.ByteGrammar.{spelling, Begins, AnswersLine}
 use Rattle.h41_codes.specs.ByteLaws.{OneLine}
 use Rattle.h41_codes.specs.declared.line.Line.{Line}
@@ -16,14 +15,7 @@ use Rattle.h41_program.proofs.Windows.{begins_count, begins_least}
 -- A line may take all bytes from its position on.
 pub line_bytes-all : (bytes : List ℕ) (position : ℕ) → position ≤ length bytes
     → line_bytes bytes (length bytes) position ≡ drop position bytes
-line_bytes-all bytes position inside = elim (cases_lt position (length bytes)) [
-  | inl before ↦
-      line_bytes-below bytes (length bytes) position before
-      ∙ take_all (length bytes - position) (drop position bytes) (omega (arith, length-drop position bytes))
-  | inr above ↦
-      let same : position ≡ length bytes = omega arith in
-      ap (line_bytes bytes (length bytes)) same ∙ line_bytes-at bytes (length bytes) ∙ ap (λ n. drop n bytes) (sym same)
-]
+line_bytes-all bytes position inside = search (rules, line_bytes-below, take_all, length-drop, line_bytes-at)
 
 module _ {E : Type 0} (one : OneLine) (bytes : List ℕ) (at p : ℕ) (from : at ≤ p) (to : p ≤ length bytes)
     (nulls : (k : ℕ) → at ≤ k → k < p → get_or bytes k 0 ≡ 0) (stop : p < length bytes → get_or bytes p 0 ≢ 0)

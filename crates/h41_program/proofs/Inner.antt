@@ -1,7 +1,7 @@
 -- Inner lines, which programs can contain.
 use Rattle.std.proofs.Common.{◌≢◌, ◌≡◌, ℕ, Bool, true, false, List, [], ◌∷◌, ◌++◌, refl, sym, ◌∙◌, ap, subst, arith, inl, inr, All, Option}
-use Rattle.std.proofs.Common.{Some, None}
-use Rattle.std.specs.Prelude.{◌||◌, if◌then◌else◌, ◌==◌}
+use Rattle.std.proofs.Common.{Some, None, rules}
+use Rattle.std.specs.Prelude.{if◌then◌else◌, ◌==◌}
 use Rattle.std.specs.Option.{option_map}
 use Rattle.std.proofs.lemmas.Bool.{cases_Bool, true≢false}
 use Rattle.std.proofs.lemmas.List.Elements.{All-nil, All-cons, All-append}
@@ -12,7 +12,7 @@ use Rattle.h41_codes.specs.declared.line.Line.TheVariants.{End, FinalEnd, Null}
 use Rattle.h41_program.specs.declared.listed_line.ListedLine.{ListedLine}
 use Rattle.h41_program.specs.Edits.{own_line, with_inserted, with_replaced, without_deleted, lines_of, before_end, with_last_end, is_open}
 use Rattle.h41_program.specs.Edits.{without_end}
-use Rattle.h41_program.specs.Lines.{is_end, is_final_end, is_inner}
+use Rattle.h41_program.specs.Lines.{is_final_end, is_inner}
 use Rattle.h41_program.specs.ProgramLaws.{IsInner}
 use Rattle.h41_program.specs.FirstLines.{FirstFrom, behind}
 use Rattle.h41_program.specs.ProgramLines.{Reads}
@@ -22,9 +22,7 @@ use Rattle.std.proofs.lemmas.Option.{none-some, same_Some}
 
 -- A line by its kind.
 inner_kind : (line : Line) → line ≢ Null → is_final_end line ≡ false → is_inner line ≡ true
-inner_kind Null some other = absurd (some refl)
-inner_kind (FinalEnd link marks) some other = absurd (true≢false other)
-inner_kind line some other = refl
+inner_kind line some other = search rules
 
 pub not_null : (line : Line) → is_inner line ≡ true → line ≢ Null
 not_null line is same = true≢false (sym is ∙ ap is_inner same)
@@ -66,15 +64,7 @@ module _ (bytes : List ℕ) (final : ℕ) where
   -- The lines that are loaded are inner.
   pub loaded_inner : (at : ℕ) (given : List ListedLine) → Reads bytes final at given → All IsInner (without_end (lines_of given))
   loaded_inner at [] reads = All-nil IsInner
-  loaded_inner at (first ∷ []) reads = chosen (is_end first.line) first.line (λ other. read_inner bytes final at first reads.0 other)
-    where
-      chosen : (b : Bool) (line : Line) → (is_final_end line ≡ false → IsInner line)
-          → All IsInner (if b || is_final_end line then [] else line ∷ [])
-      chosen true line inner = All-nil IsInner
-      chosen false line inner = elim (cases_Bool (is_final_end line)) [
-        | inl last ↦ rw last (All-nil IsInner)
-        | inr other ↦ rw other (All-cons IsInner line [] (inner other) (All-nil IsInner))
-      ]
+  loaded_inner at (first ∷ []) reads = search (rules, read_inner, last_rest, more_rest)
   loaded_inner at (first ∷ second ∷ rest) reads = elim (cases_Bool (is_final_end first.line)) [
     | inl last ↦
         absurd (not_empty second rest (last_rest bytes final (behind first) (is_final_end first.line) (second ∷ rest) last reads.1))
@@ -104,11 +94,7 @@ abbrev pub KeepsInner : (ListedLine → List Line) → Type 0
 KeepsInner change = (listed : ListedLine) → IsLine listed.line → listed.line ≢ Null → All IsInner (change listed)
 
 own_inner : (listed : ListedLine) → IsLine listed.line → listed.line ≢ Null → All IsInner (own_line listed)
-own_inner listed valid some = elim (cases_Bool (is_final_end listed.line)) [
-  | inl last ↦ rw last (All-nil IsInner)
-  | inr other ↦
-      rw other (All-cons IsInner listed.line [] (record { valid = valid; inner = inner_kind listed.line some other }) (All-nil IsInner))
-]
+own_inner listed valid some = search (rules, inner_kind)
 
 chosen_inner : (b : Bool) (line : Line) (others : List Line) → IsInner line → All IsInner others
     → All IsInner (if b then line ∷ [] else others)

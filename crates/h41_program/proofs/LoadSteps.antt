@@ -1,8 +1,7 @@
 -- The steps of a load, one after another.
-use Rattle.std.proofs.Common.{◌≡◌, ℕ, ◌+◌, ◌<◌, ◌≤◌, inl, inr, List, ◌++◌, length, refl, sym, ◌∙◌, ap, subst, arith, Option, Some, None}
-use Rattle.std.proofs.Common.{Result, Ok, Err}
+use Rattle.std.proofs.Common.{◌≡◌, ℕ, ◌+◌, ◌<◌, ◌≤◌, List, ◌++◌, length, refl, ap, Option, Some, None}
+use Rattle.std.proofs.Common.{Result, Ok, Err, rules}
 use Rattle.std.specs.Prelude.{MatchOption, IsOkAnd}
-use Rattle.std.proofs.lemmas.Bool.{cases_Bool, cases_lt}
 use Rattle.h41_codes.specs.declared.line.Line.{Line}
 use Rattle.h41_ram.specs.RegisterMap.{RegisterMap, main_start, curtain_of}
 use Rattle.h41_program.specs.declared.listed_line.ListedLine.{ListedLine}
@@ -11,40 +10,29 @@ use Rattle.h41_program.specs.declared.refusal.ProgramRefusal.{ProgramRefusal}
 use Rattle.h41_program.specs.declared.refusal.ProgramRefusal.TheVariants.{BrokenProgram, NoRoom}
 use Rattle.h41_program.specs.Edits.{lines_of, with_last_end, memory_with_answer, load_outcome, loaded_of, LoadsBehind}
 use Rattle.h41_program.specs.private.Packers.{Packs}
-use Rattle.h41_program.specs.Packing.{packed_lines, packing}
+use Rattle.h41_program.specs.Packing.{packed_lines}
 use Rattle.h41_program.specs.ProgramLines.{Reads}
 use Rattle.h41_program.specs.Rewriting.{with_program_lines, HasOutcome}
 use Rattle.h41_program.proofs.Packings.{packed-less, length-packing, no_room}
 use Rattle.h41_program.proofs.Rooms.{written-none}
-use Rattle.h41_program.proofs.Cases.{not_both, same_error}
+use Rattle.h41_program.proofs.Cases.{not_both}
 
 gives_err : {A : Type 0} (old new : RegisterMap) (result : Result (Unit {0}) ProgramRefusal) (refusal : ProgramRefusal)
     (given : Result A ProgramRefusal) (answer : A) (outcome : Result RegisterMap ProgramRefusal)
     → result ≡ Err refusal → given ≡ Err refusal → HasOutcome old new result (memory_with_answer tt outcome)
     → HasOutcome old new given (memory_with_answer answer outcome)
-gives_err old new result refusal given answer (Ok memory) err same gives = absurd (not_both result tt refusal gives.0 err)
-gives_err old new result refusal given answer (Err other) err same gives =
-    (same ∙ ap (λ (e : ProgramRefusal). Err e) (same_error result refusal other err gives.0), gives.1)
+gives_err old new result refusal given answer outcome err same gives = search rules
 
 -- Lines are refused if the first of them are too many already.
 too_many : (memory : RegisterMap) (lines more : List Line) → curtain_of memory ≤ main_start + 320 → 2237 < length (packed_lines lines)
     → with_program_lines memory (lines ++ more) ≡ Err NoRoom
-too_many memory lines more small many =
-    let less = packed-less lines more in
-    let above =
-    no_room (length (packed_lines (lines ++ more))) (length (packing (lines ++ more)))
-    (omega (arith, many, less)) (sym (length-packing (lines ++ more))) in
-    written-none memory (lines ++ more) (omega (arith, small, above))
+too_many memory lines more small many = search (rules, packed-less, no_room, length-packing, written-none)
 
 -- The start of the lines that were loaded.
 begins_there : (memory : RegisterMap) (packer : Packer) (lines more : List Line) (after : RegisterMap) (start : ℕ)
     → curtain_of memory ≤ main_start + 320 → Packs packer lines → start ≡ length packer.bytes.items
     → with_program_lines memory (lines ++ more) ≡ Ok after → start ≡ length (packed_lines lines)
-begins_there memory packer lines more after start small packs is done = elim (cases_Bool packer.full) [
-  | inl mark ↦ absurd (not_both (with_program_lines memory (lines ++ more)) after NoRoom done
-      (too_many memory lines more small (packs.full mark)))
-  | inr room ↦ is ∙ ap length (packs.held room)
-]
+begins_there memory packer lines more after start small packs is done = search (rules, too_many)
 
 -- Lines that are written.
 was_written : (old new : RegisterMap) (result : Result (Unit {0}) ProgramRefusal) (outcome : Result RegisterMap ProgramRefusal)
@@ -75,10 +63,7 @@ pub load_broken : (memory : RegisterMap) (bytes : List ℕ) (first : Result Pack
     (before : Option (List ListedLine)) (refusal : ProgramRefusal) (answer : Result ℕ ProgramRefusal)
     → MatchOption before (first ≡ Err BrokenProgram) (λ listed. IsOkAnd first (λ held. Packs held (lines_of listed))) → first ≡ Err refusal
     → answer ≡ Err refusal → LoadsBehind memory bytes before (Err BrokenProgram) × (answer ≡ Err BrokenProgram)
-load_broken memory bytes first None refusal answer is err same =
-    (refl, same ∙ ap (λ (e : ProgramRefusal). Err e) (same_error first refusal BrokenProgram err is))
-load_broken memory bytes first (Some listed) refusal answer is err same =
-    absurd (subst (λ (r : Result Packer ProgramRefusal). IsOkAnd r (λ held. Packs held (lines_of listed))) err is)
+load_broken memory bytes first before refusal answer is err same = search rules
 
 -- The facts about a load after the lines of memory are packed.
 pub record Loading (before : Option (List ListedLine)) (loaded : Option (List Line)) (first : Result Packer ProgramRefusal)
@@ -93,25 +78,14 @@ module _ (memory after : RegisterMap) (first : Result Packer ProgramRefusal)
     (packer closed_packer new : Packer) (put : Result (Unit {0}) ProgramRefusal) where
   packs_closed : (listed : List ListedLine) (loaded : Option (List Line)) → Loading (Some listed) loaded first packer closed_packer new put
       → Packs closed_packer (with_last_end (lines_of listed))
-  packs_closed listed loaded is =
-      let ok : IsOkAnd {E = ProgramRefusal} (Ok packer) (λ held. Packs held (lines_of listed)) =
-      subst (λ (r : Result Packer ProgramRefusal). IsOkAnd r (λ held. Packs held (lines_of listed))) is.begun is.program in
-      is.closes (lines_of listed) ok
+  packs_closed listed loaded is = search rules
 
   -- The given bytes are refused.
   pub load_refused : (before : Option (List ListedLine)) (loaded : Option (List Line))
       (refusal : ProgramRefusal) (answer : Result ℕ ProgramRefusal)
       → Loading before loaded first packer closed_packer new put → put ≡ Err refusal → answer ≡ Err refusal
       → HasOutcome memory memory answer (outcome_of memory before loaded)
-  load_refused None loaded refusal answer is err same = absurd (not_both first packer BrokenProgram is.begun is.program)
-  load_refused (Some listed) None refusal answer is err same = (
-    same
-        ∙ ap (λ (e : ProgramRefusal). Err e)
-        (same_error put refusal BrokenProgram err (is.puts (with_last_end (lines_of listed)) (packs_closed listed None is))),
-    refl,
-  )
-  load_refused (Some listed) (Some lines) refusal answer is err same =
-      absurd (not_both put tt refusal (is.puts (with_last_end (lines_of listed)) (packs_closed listed (Some lines) is)).0 err)
+  load_refused before loaded refusal answer is err same = search (rules, packs_closed)
 
   -- There is no room for the lines.
   pub load_unwritten : (before : Option (List ListedLine)) (loaded : Option (List Line))
@@ -119,13 +93,7 @@ module _ (memory after : RegisterMap) (first : Result Packer ProgramRefusal)
       → Loading before loaded first packer closed_packer new put → put ≡ Ok tt → wrote ≡ Err refusal → answer ≡ Err refusal
       → ((lines : List Line) → Packs new lines → HasOutcome memory after wrote (memory_with_answer tt (with_program_lines memory lines)))
       → HasOutcome memory after answer (outcome_of memory before loaded)
-  load_unwritten None loaded wrote refusal answer is ok err same writes = absurd (not_both first packer BrokenProgram is.begun is.program)
-  load_unwritten (Some listed) None wrote refusal answer is ok err same writes =
-      absurd (not_both put tt BrokenProgram ok (is.puts (with_last_end (lines_of listed)) (packs_closed listed None is)))
-  load_unwritten (Some listed) (Some lines) wrote refusal answer is ok err same writes =
-      let all = with_last_end (lines_of listed) in
-      gives_err memory after wrote refusal answer (length (packed_lines all)) (with_program_lines memory (all ++ lines)) err same
-      (writes (all ++ lines) (is.puts all (packs_closed listed (Some lines) is)).1)
+  load_unwritten before loaded wrote refusal answer is ok err same writes = search (rules, packs_closed, gives_err)
 
   -- The lines were written.
   pub load_written : (before : Option (List ListedLine)) (loaded : Option (List Line))
@@ -149,19 +117,5 @@ module _ (memory after : RegisterMap) (first : Result Packer ProgramRefusal)
       → curtain_of memory ≤ main_start + 320
       → ((lines : List Line) → Packs new lines → HasOutcome memory after wrote (memory_with_answer tt (with_program_lines memory lines)))
       → start ≤ 2237
-  load_bound None loaded wrote start is ok done same small writes = absurd (not_both first packer BrokenProgram is.begun is.program)
-  load_bound (Some listed) None wrote start is ok done same small writes =
-      absurd (not_both put tt BrokenProgram ok (is.puts (with_last_end (lines_of listed)) (packs_closed listed None is)))
-  load_bound (Some listed) (Some lines) wrote start is ok done same small writes =
-      let all = with_last_end (lines_of listed) in
-      let begun = packs_closed listed (Some lines) is in
-      let after_all = was_written memory after wrote (with_program_lines memory (all ++ lines)) done
-      (writes (all ++ lines) (is.puts all begun).1) in
-      let there = begins_there memory closed_packer all lines after_all.0 start small begun same after_all.1 in
-      elim (cases_lt 2237 start) [
-        | inl above ↦
-            let many : 2237 < length (packed_lines all) = omega (arith, above, there) in
-            absurd (not_both (with_program_lines memory (all ++ lines)) after_all.0 NoRoom after_all.1
-            (too_many memory all lines small many))
-        | inr below ↦ below
-      ]
+  load_bound before loaded wrote start is ok done same small writes =
+      search (rules, packs_closed, was_written, begins_there, too_many)

@@ -1,6 +1,6 @@
 -- Lines that are loaded. The last one may be dropped.
-use Rattle.std.proofs.Common.{◌≡◌, ℕ, ◌≤◌, Bool, true, false, List, [], ◌∷◌, ◌++◌, length, drop, refl, sym, ◌∙◌, ap, subst, arith}
-use Rattle.std.proofs.Common.{append_assoc, append-nil, Option, Some, None, Result, Ok, Err}
+use Rattle.std.proofs.Common.{◌≡◌, ℕ, ◌≤◌, Bool, true, false, List, [], ◌∷◌, ◌++◌, length, drop, refl, ap, rules}
+use Rattle.std.proofs.Common.{append_assoc, Option, Some, None, Result, Ok, Err}
 use Rattle.std.specs.Prelude.{◌||◌, ◌==◌, if◌then◌else◌, MatchOption, IsOkAnd}
 use Rattle.std.specs.List.{list_all}
 use Rattle.h41_program.specs.declared.given.Taken.{Taken}
@@ -18,7 +18,7 @@ use Rattle.h41_program.specs.private.Packers.{Packs}
 use Rattle.h41_program.specs.Packing.{last_line}
 use Rattle.h41_program.specs.FirstLines.{behind}
 use Rattle.h41_program.proofs.Packings.{last_line-more}
-use Rattle.h41_program.proofs.Walks.{UpTo, all_final, up_to_none, up_to_more, before_end-final}
+use Rattle.h41_program.proofs.Walks.{UpTo, all_final, up_to_more, before_end-final}
 
 -- Lines without the last.
 abbrev pub but_last : List Line → List Line
@@ -81,11 +81,7 @@ pub packed_lines : (bytes : List ℕ) (final at : ℕ) (before : List ListedLine
     → UpTo bytes final 0 before at → is_final_end listed.line ≡ true → Packs packer (lines_of before)
     → MatchOption (before_end (before ++ listed ∷ [])) (◌≡◌ {A = Result Packer ProgramRefusal} (Ok packer) (Err BrokenProgram))
     (λ each. IsOkAnd {E = ProgramRefusal} (Ok packer) (λ held. Packs held (lines_of each)))
-packed_lines bytes final at before listed packer upto last packs =
-    let all = before_end-final bytes final 0 at before listed upto last in
-    subst (λ (o : Option (List ListedLine)). MatchOption o (◌≡◌ {A = Result Packer ProgramRefusal} (Ok packer) (Err BrokenProgram))
-    (λ each. IsOkAnd {E = ProgramRefusal} (Ok packer) (λ held. Packs held (lines_of each))))
-    (sym all) packs
+packed_lines bytes final at before listed packer upto last packs = search (rules, before_end-final)
 
 -- One more line is read, and the pending one is appended.
 pub loaded_more : (bytes : List ℕ) (old mid new : Packer) (pending : Option Line) (at : ℕ) (before : List ListedLine) (taken : Taken)
@@ -93,33 +89,13 @@ pub loaded_more : (bytes : List ℕ) (old mid new : Packer) (pending : Option Li
     → ((front : List Line) → Packs mid front → Packs new (front ++ listed_option pending))
     → Loaded bytes old new (Some taken.line) taken.behind (before ++ (record { position = taken.position; line = taken.line }) ∷ [])
 loaded_more bytes old mid new pending at before taken loaded is other puts =
-    let listed : ListedLine = record { position = taken.position; line = taken.line } in
-    let lines = lines_of before in
-    let again : but_last lines ++ listed_option pending ≡ lines =
-    ap (λ (o : Option Line). but_last lines ++ listed_option o) loaded.last ∙ with_last lines in
-    record {
-      read = up_to_more bytes (length bytes) 0 at taken.behind before listed loaded.read is other;
-      end = end_of_lines-more before listed ∙ sym is.behind;
-      inside = is.inside;
-      last = sym (ap last_line (lines_of-more before listed) ∙ last_line-more lines taken.line);
-      line = λ line same.
-          let here : taken.line ≡ line = cc in
-          (ap is_final_end (sym here) ∙ other, subst IsLine here is.first.begins.spells.valid);
-      packs = λ front packs.
-          let put = puts (front ++ but_last lines) (loaded.packs front packs) in
-          subst (λ (l : List Line). Packs new (front ++ l))
-          (sym (ap but_last (lines_of-more before listed) ∙ but_last-more lines taken.line))
-          (subst (λ (l : List Line). Packs new (front ++ l)) again
-          (subst (λ (l : List Line). Packs new l) (append_assoc front (but_last lines) (listed_option pending)) put));
-    }
+    search (rules, with_last, up_to_more, end_of_lines-more, lines_of-more, last_line-more, but_last-more, append_assoc)
 
 -- The lines of the bytes to be loaded, by a test of the remaining bytes.
 loaded_by : (bytes : List ℕ) (at : ℕ) (given : List ListedLine) (lines : List Line) → end_of_lines given ≡ at
     → without_end (lines_of given) ≡ lines
     → loaded_of bytes given ≡ (if list_all (λ byte. byte == 0) (drop at bytes) then Some lines else None)
-loaded_by bytes at given lines end same =
-    ap (λ (n : ℕ). if list_all (λ byte. byte == 0) (drop n bytes) then Some (without_end (lines_of given)) else None) end
-    ∙ ap (λ (l : List Line). if list_all (λ byte. byte == 0) (drop at bytes) then Some l else None) same
+loaded_by bytes at given lines end same = cc
 
 -- The outcome of such a test.
 tested : (b : Bool) (lines : List Line) (front : List Line) (new : Packer) → (b ≡ true → Packs new (front ++ lines))
@@ -138,17 +114,7 @@ loaded_final : (bytes : List ℕ) (old mid new : Packer) (pending : Option Line)
     ≡ (if list_all (λ byte. byte == 0) (drop taken.behind bytes) then Some (lines_of before) else None))
     × Packs new (front ++ lines_of before)
 loaded_final bytes old mid new pending at before taken front loaded is last puts packs =
-    let listed : ListedLine = record { position = taken.position; line = taken.line } in
-    let lines = lines_of before in
-    let end = end_of_lines-more before listed ∙ sym is.behind in
-    let same = ap without_end (lines_of-more before listed) ∙ without_end-final lines taken.line last in
-    let again : but_last lines ++ listed_option pending ≡ lines =
-    ap (λ (o : Option Line). but_last lines ++ listed_option o) loaded.last ∙ with_last lines in
-    let put = puts (front ++ but_last lines) (loaded.packs front packs) in (
-      loaded_by bytes taken.behind (before ++ listed ∷ []) lines end same,
-      subst (λ (l : List Line). Packs new (front ++ l)) again
-          (subst (λ (l : List Line). Packs new l) (append_assoc front (but_last lines) (listed_option pending)) put),
-    )
+    search (rules, end_of_lines-more, lines_of-more, without_end-final, with_last, loaded_by, append_assoc)
 
 -- The lines that are then appended, if only nulls follow.
 pub final_puts : (bytes : List ℕ) (old mid new : Packer) (pending : Option Line)
@@ -171,19 +137,4 @@ pub loaded_none : (bytes : List ℕ) (old mid : Packer) (pending : Option Line) 
     → Loaded bytes old mid pending at before
     → loaded_of bytes before
     ≡ (if list_all (λ byte. byte == 0) (drop at bytes) then Some (but_last (lines_of before) ++ kept_option pending) else None)
-loaded_none bytes old mid pending at before loaded =
-    let lines = lines_of before in
-    let same = without_end-kept lines (λ line is. (loaded.line line (loaded.last ∙ is)).0)
-    ∙ ap (λ (o : Option Line). but_last lines ++ kept_option o) (sym loaded.last) in
-    loaded_by bytes at before (but_last lines ++ kept_option pending) loaded.end same
-
--- No line is read yet.
-pub loaded_nothing : (bytes : List ℕ) (packer : Packer) → Loaded bytes packer packer None 0 []
-loaded_nothing bytes packer = record {
-  read = up_to_none bytes (length bytes) 0;
-  end = refl;
-  inside = omega arith;
-  last = refl;
-  line = λ line same. absurd cc;
-  packs = λ front packs. subst (λ (l : List Line). Packs packer l) (sym (append-nil front)) packs;
-}
+loaded_none bytes old mid pending at before loaded = search (rules, without_end-kept, loaded_by)

@@ -1,10 +1,8 @@
 -- The lines of sound memory.
-use Rattle.std.proofs.Common.{◌≡◌, ◌≢◌, ℕ, ◌+◌, ◌-◌, ◌<◌, ◌≤◌, true, List, map, min, length, take, drop, get_or, sym, ◌∙◌, ap, subst, arith}
-use Rattle.std.proofs.Common.{inl, inr, Result, Ok, Err}
-use Rattle.std.specs.Prelude.{slice_range}
+use Rattle.std.proofs.Common.{◌≡◌, ◌≢◌, ℕ, ◌+◌, ◌-◌, ◌<◌, ◌≤◌, true, List, map, min, length, take, get_or, sym, ◌∙◌, ap, subst, arith}
+use Rattle.std.proofs.Common.{Result, Ok, Err, rules}
 use Rattle.std.specs.List.{range_with_len}
 use Rattle.std.proofs.lemmas.List.FromFn.{get_or-map-range_with_len, length-map-range_with_len, take-map-range_with_len}
-use Rattle.std.proofs.lemmas.Bool.{cases_lt}
 use Rattle.std.proofs.lemmas.List.{length-take, length-drop}
 use Rattle.h41_codes.specs.ByteGrammar.{spelling, Begins, AnswersLine}
 use Rattle.h41_codes.specs.ByteLaws.{OneLine}
@@ -22,20 +20,8 @@ use Rattle.h41_program.proofs.Windows.{drop-map-range, take-window, begins_count
 pub window_bytes : (f : ℕ → ℕ) (n final p limit : ℕ) → n ≡ final + 3 → p ≤ final → (p < final → limit ≡ final)
     → (p ≡ final → limit ≡ final + 3)
     → take 18 (line_bytes (map f (range_with_len 0 n)) final p) ≡ map f (range_with_len p (min 18 (limit - p)))
-window_bytes f n final p limit count inside below last = elim (cases_lt p final) [
-  | inl before ↦
-      let size : final - p ≡ limit - p = ap (λ m. m - p) (sym (below before)) in
-      ap (take 18)
-      (line_bytes-below (map f (range_with_len 0 n)) final p before ∙ ap (take (final - p)) (drop-map-range f n p (omega arith))
-      ∙ take-map-range_with_len f p (n - p) (final - p) (omega arith))
-      ∙ take-window f p (final - p) ∙ ap (λ m. map f (range_with_len p (min 18 m))) size
-  | inr above ↦
-      let same : p ≡ final = omega arith in
-      let size : n - p ≡ limit - p = omega (arith, last same) in
-      ap (take 18) (ap (line_bytes (map f (range_with_len 0 n)) final) same ∙ line_bytes-at (map f (range_with_len 0 n)) final
-      ∙ ap (λ m. drop m (map f (range_with_len 0 n))) (sym same) ∙ drop-map-range f n p (omega arith))
-      ∙ take-window f p (n - p) ∙ ap (λ m. map f (range_with_len p (min 18 m))) size
-]
+window_bytes f n final p limit count inside below last =
+    search (rules, line_bytes-below, drop-map-range, take-map-range_with_len, take-window, line_bytes-at)
 
 -- The byte at a position.
 pub byte_there : (memory : RegisterMap) (k : ℕ) → k < byte_count memory → get_or (program_bytes memory) k 0 ≡ program_byte memory k
@@ -45,48 +31,22 @@ byte_there memory k inside = get_or-map-range_with_len (program_byte memory) 0 (
 pub passed_nulls : (memory : RegisterMap) (at p : ℕ) → final_position memory + 3 ≡ byte_count memory → at ≤ p → p ≤ final_position memory
     → ((k : ℕ) → at ≤ k → k < p → program_byte memory k ≡ 0) → (p < final_position memory → program_byte memory p ≢ 0)
     → Passed (program_bytes memory) (final_position memory) at p
-passed_nulls memory at p count from to nulls stop = record {
-  from = from;
-  to = to;
-  nulls = λ k low high. byte_there memory k (omega (arith, count, to, high)) ∙ nulls k low high;
-  stop = λ before null. stop before (sym (byte_there memory p (omega (arith, count, to))) ∙ null);
-  inside = omega (arith, count, length-map-range_with_len (program_byte memory) 0 (byte_count memory));
-}
+passed_nulls memory at p count from to nulls stop = search (rules, byte_there, length-map-range_with_len)
 
 -- The byte after them is no null, because memory ends in .END.
 pub stops_there : (memory : RegisterMap) (p : ℕ) → is_sound memory ≡ true → final_position memory + 3 ≡ byte_count memory
     → p ≤ final_position memory → (p < final_position memory → program_byte memory p ≢ 0) → get_or (program_bytes memory) p 0 ≢ 0
-stops_there memory p sound count to stop = λ null. elim (cases_lt p (final_position memory)) [
-  | inl before ↦ stop before (sym (byte_there memory p (omega (arith, count, to))) ∙ null)
-  | inr above ↦
-      let same : p ≡ final_position memory = omega (arith, above, to) in
-      let here : program_byte memory (final_position memory) ≡ 0 =
-      ap (program_byte memory) (sym same) ∙ sym (byte_there memory p (omega (arith, count, to))) ∙ null in
-      let high = final_byte memory sound in
-      absurd (omega (arith, here, high))
-]
+stops_there memory p sound count to stop = search (rules, byte_there, final_byte)
 
 -- A line has no more bytes than there are.
 line_takes : (bytes : List ℕ) (final p : ℕ) (line : Line) (size : ℕ) → p ≤ final → final ≤ length bytes
     → Begins (line_bytes bytes final p) line size → p + size ≤ length bytes
-line_takes bytes final p line size inside all begins = elim (cases_lt p final) [
-  | inl before ↦
-      let taken : size ≤ length (slice_range bytes p final) =
-      subst (λ (rest : List ℕ). size ≤ length rest) (line_bytes-below bytes final p before) begins.inside in
-      omega (arith, taken, length-take (final - p) (drop p bytes), length-drop p bytes)
-  | inr above ↦
-      let same : p ≡ final = omega arith in
-      let taken : size ≤ length (drop final bytes) =
-      subst (λ (rest : List ℕ). size ≤ length rest) (ap (line_bytes bytes final) same ∙ line_bytes-at bytes final) begins.inside in
-      omega (arith, taken, length-drop final bytes)
-]
+line_takes bytes final p line size inside all begins = search (rules, line_bytes-below, length-take, length-drop, line_bytes-at)
 
 -- An answer contains one line.
 pub ok_line : {E : Type 0} (one other : Line) (size count : ℕ) → ◌≡◌ {A = Result (Line × ℕ) E} (Ok (one, size)) (Ok (other, count))
     → one ≡ other
-ok_line one other size count same =
-    let pair : (one, size) ≡ (other, count) = cc in
-    ap (λ (answer : Line × ℕ). answer.0) pair
+ok_line one other size count same = search rules
 
 pub no_error : {E : Type 0} (answer : Line × ℕ) (error : E) → ◌≡◌ {A = Result (Line × ℕ) E} (Ok answer) (Err error) → ⊥
 no_error answer error same = cc
@@ -166,11 +126,7 @@ module _ {E : Type 0} (one : OneLine) (memory : RegisterMap) (sound : is_sound m
   passed = passed_nulls memory at p count looked.from inside looked.nulls stops
 
   same : take 18 (line_bytes (program_bytes memory) (final_position memory) p) ≡ window
-  same =
-      window_bytes (program_byte memory) (byte_count memory) (final_position memory) p limit (sym count) inside
-      (λ before. looked.before (subst (λ (n : ℕ). p < n) (sym looked.last_is) before) ∙ looked.last_is)
-      (λ here. looked.behind (here ∙ sym looked.last_is) ∙ ap (λ n. n + 3) looked.last_is)
-      ∙ sym looked.bytes
+  same = search (rules, window_bytes, count, inside)
 
   pub looked_first : (line : Line) (size next : ℕ) → result ≡ Ok (line, size) → next ≡ p + size
       → HasFirst memory at (record { listed = record { position = p; line = line }; behind = next })

@@ -1,6 +1,6 @@
 -- The new line of a changed list: as many lines precede it as preceded its place.
 use Rattle.std.proofs.Common.{◌≡◌, ℕ, zero, suc, ◌<◌, ◌≤◌, Bool, true, false, List, [], ◌∷◌, ◌++◌, refl, sym, ◌∙◌, ap, subst, arith, inl}
-use Rattle.std.proofs.Common.{inr, Some}
+use Rattle.std.proofs.Common.{inr, Some, rules}
 use Rattle.std.specs.Prelude.{◌==◌, ◌||◌, slice_get}
 use Rattle.std.specs.List.{flat_map}
 use Rattle.std.proofs.lemmas.Bool.{cases_Bool, true≢false}
@@ -14,7 +14,7 @@ use Rattle.h41_program.specs.ProgramLines.{Reads}
 use Rattle.h41_program.proofs.EditPlaces.{count_cons, none_before}
 use Rattle.h41_program.proofs.ListLaws.{own_reads}
 use Rattle.h41_program.proofs.Walks.{last_rest, more_rest}
-use Rattle.std.proofs.lemmas.Option.{none-some, same_Some}
+use Rattle.std.proofs.lemmas.Option.{none-some}
 
 same_of : (a b : ℕ) → (a == b) ≡ true → a ≡ b
 same_of a b is = grind (arith, nat_tests)
@@ -102,9 +102,7 @@ module _ (bytes : List ℕ) (final : ℕ) where
   pub get_first : (at : ℕ) (lines : List ListedLine) (count : ℕ) (found : ListedLine) → Reads bytes final at lines
       → slice_get lines count ≡ Some found → FirstFrom bytes final found.position found
   get_first at [] count found reads is = absurd (none-some found is)
-  get_first at (first ∷ rest) zero found reads is =
-      subst (λ (l : ListedLine). FirstFrom bytes final l.position l)
-      (same_Some first found is) (own_reads bytes final at first rest reads).0
+  get_first at (first ∷ rest) zero found reads is = search (rules, own_reads, last_rest, more_rest)
   get_first at (first ∷ rest) (suc count) found reads is = elim (cases_Bool (is_final_end first.line)) [
     | inl last ↦
         let none = last_rest bytes final (behind first) (is_final_end first.line) rest last reads.1 in

@@ -1,13 +1,12 @@
 -- The bytes of program memory, read eight at a time, and the nulls among them.
-use Rattle.std.proofs.Common.{◌≡◌, ◌≢◌, ℕ, suc, ◌+◌, ◌-◌, ◌*◌, ◌/◌, ◌%◌, ◌^◌, ◌<◌, ◌≤◌, Bool, List, true, false, refl, sym}
+use Rattle.std.proofs.Common.{◌≡◌, ◌≢◌, ℕ, suc, ◌+◌, ◌-◌, ◌*◌, ◌/◌, ◌%◌, ◌^◌, ◌<◌, ◌≤◌, List, true, sym, rules}
 use Rattle.std.proofs.Common.{ap, arith, ◌∙◌, subst, inl, inr}
-use Rattle.std.specs.Prelude.{nat_lt, if◌then◌else◌}
 use Rattle.std.specs.Int.{w64, leading_zeros}
 use Rattle.std.proofs.lemmas.Bool.{cases_lt, ltb-true}
 use Rattle.std.proofs.lemmas.Bool.Decides.{nat_tests}
 use Rattle.std.proofs.Math.Nat.{div-eq_of_lt, mod-eq_of_lt, pow-le-pow_right, pow-succ'}
 use Rattle.std.proofs.lemmas.Nat.{pow_pos, leading_top, le-div, div_below}
-use Rattle.h41_digits.specs.Register.{byte_at, byte_of_two, number_byte}
+use Rattle.h41_digits.specs.Register.{byte_of_two, number_byte}
 use Rattle.h41_digits.proofs.Windows.{bits_of_weight}
 use Rattle.h41_ram.specs.RegisterMap.{RegisterMap, curtain_of, is_sound, register_at}
 use Rattle.h41_program.specs.ProgramBytes.{byte_count, final_position, program_byte}
@@ -19,22 +18,7 @@ pub two_registers : (memory : RegisterMap) (at k : ℕ) (upper lower : List ℕ)
     → upper ≡ register_at memory (curtain_of memory - 1 - at / 7)
     → (7 ≤ at % 7 + k → lower ≡ register_at memory (curtain_of memory - 1 - at / 7 - 1))
     → byte_of_two upper lower (at % 7 + k) ≡ program_byte memory (at + k)
-two_registers memory at k upper lower few here below =
-    elim (nat_lt (at % 7 + k) 7) as (λ (first : Bool). nat_lt (at % 7 + k) 7 ≡ first
-    → (if first then byte_at upper (6 - (at % 7 + k)) else byte_at lower (13 - (at % 7 + k))) ≡ program_byte memory (at + k)) [
-      | true ↦ λ is.
-          let inside : at % 7 + k < 7 = ltb-true (at % 7 + k) 7 is in
-          let q : at / 7 ≡ (at + k) / 7 = omega (arith, inside) in
-          let r : 6 - (at % 7 + k) ≡ 6 - (at + k) % 7 = omega (arith, inside) in
-          ap (λ (register : List ℕ). byte_at register (6 - (at % 7 + k))) here
-          ∙ (λ i. byte_at (register_at memory (curtain_of memory - 1 - q i)) (r i))
-      | false ↦ λ is.
-          let behind : 7 ≤ at % 7 + k = grind (arith, nat_tests) in
-          let q : curtain_of memory - 1 - at / 7 - 1 ≡ curtain_of memory - 1 - (at + k) / 7 = omega (arith, behind, few) in
-          let r : 13 - (at % 7 + k) ≡ 6 - (at + k) % 7 = omega (arith, behind, few) in
-          ap (λ (register : List ℕ). byte_at register (13 - (at % 7 + k))) (below behind)
-          ∙ (λ i. byte_at (register_at memory (q i)) (r i))
-    ] refl
+two_registers memory at k upper lower few here below = search (rules, ltb-true, nat_tests)
 
 -- The zeros before the highest bit of a number.
 module _ (number : ℕ) (some : 0 < number) (fits : number < 2 ^ 64) where
@@ -45,14 +29,10 @@ module _ (number : ℕ) (some : 0 < number) (fits : number < 2 ^ 64) where
   top = leading_top 64 number some fits
 
   below_weight : (place : ℕ) → suc top.0 ≤ 8 * place → number < 256 ^ place
-  below_weight place high =
-      let less = top.3 in
-      omega (arith, less, bits_of_weight place, pow-le-pow_right {n = 2} (omega arith) {i = suc top.0} {j = 8 * place} high)
+  below_weight place high = search (rules, top, bits_of_weight, pow-le-pow_right)
 
   pub nulls_zero : (k : ℕ) → k < nulls → number_byte number (7 - k) ≡ 0
-  nulls_zero k before =
-      let sum = top.1 in
-      ap (λ n. n % 256) (div-eq_of_lt (below_weight (7 - k) (omega (arith, sum, before))))
+  nulls_zero k before = search (rules, top, div-eq_of_lt, below_weight)
 
   pub nulls_stop : number_byte number (7 - nulls) ≢ 0
   nulls_stop =
@@ -70,9 +50,7 @@ module _ (number : ℕ) (some : 0 < number) (fits : number < 2 ^ 64) where
 
 -- All bytes of the number zero are zero.
 zero_byte : (place : ℕ) → number_byte 0 place ≡ 0
-zero_byte place =
-    let positive : 0 < 256 ^ place = rw (bits_of_weight place) (pow_pos (8 * place)) in
-    ap (λ n. n % 256) (div-eq_of_lt positive)
+zero_byte place = search (rules, bits_of_weight, pow_pos, div-eq_of_lt)
 
 -- The bytes that were skipped are nulls, and the byte after them is not.
 module _ (memory : RegisterMap) (at position : ℕ) (before : (k : ℕ) → at ≤ k → k < position → program_byte memory k ≡ 0) where

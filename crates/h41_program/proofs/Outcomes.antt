@@ -1,9 +1,8 @@
 -- The memory after a call is sound, and is read again.
-use Rattle.std.proofs.Common.{◌∙◌, ◌≡◌, ℕ, Bool, true, false, List, [], ◌++◌, length, drop, All, refl, sym, ap, subst, inl, inr, Option}
-use Rattle.std.proofs.Common.{Some, None, Result, Ok, Err}
-use Rattle.std.specs.Prelude.{◌==◌, ◌&&◌, is_some, OnOk, if◌then◌else◌}
-use Rattle.std.specs.List.{flat_map, list_all}
-use Rattle.std.proofs.lemmas.Bool.{cases_Bool}
+use Rattle.std.proofs.Common.{◌≡◌, ℕ, Bool, true, false, List, ◌++◌, length, All, sym, subst, inl, inr, Option}
+use Rattle.std.proofs.Common.{Some, None, Result, Ok, Err, rules}
+use Rattle.std.specs.Prelude.{◌&&◌, is_some, OnOk}
+use Rattle.std.specs.List.{flat_map}
 use Rattle.std.proofs.lemmas.List.Elements.{All-append}
 use Rattle.h41_codes.specs.ByteLaws.{ByteRoundTrip}
 use Rattle.h41_codes.specs.declared.line.Line.{Line}
@@ -11,8 +10,8 @@ use Rattle.h41_ram.specs.RegisterMap.{RegisterMap, is_sound}
 use Rattle.h41_program.specs.declared.listed_line.ListedLine.{ListedLine}
 use Rattle.h41_program.specs.declared.refusal.ProgramRefusal.{ProgramRefusal}
 use Rattle.h41_program.specs.declared.refusal.ProgramRefusal.TheVariants.{BrokenProgram}
-use Rattle.h41_program.specs.Edits.{lines_of, before_end, with_last_end, memory_with_answer, changed_outcome, edit_outcome, end_of_lines}
-use Rattle.h41_program.specs.Edits.{has_line_at, LeavesChanged, load_outcome, loaded_of, without_end, Edits, Loads, LoadsBehind}
+use Rattle.h41_program.specs.Edits.{lines_of, before_end, with_last_end, memory_with_answer, changed_outcome, edit_outcome}
+use Rattle.h41_program.specs.Edits.{has_line_at, LeavesChanged, load_outcome, loaded_of, Edits, Loads, LoadsBehind}
 use Rattle.h41_program.specs.Packing.{packed_lines}
 use Rattle.h41_program.specs.ProgramBytes.{program_bytes, final_position}
 use Rattle.h41_program.specs.ProgramLaws.{IsInner, HasLines, LeavesLoaded, LoadIsRead}
@@ -21,7 +20,6 @@ use Rattle.h41_program.specs.ProgramLines.{LinesFrom, Reads}
 use Rattle.h41_program.specs.Rewriting.{with_program_lines, HasOutcome}
 use Rattle.h41_program.proofs.Inner.{KeepsInner, before_inner, changed_inner, closed_inner, loaded_inner}
 use Rattle.h41_program.proofs.Written.{written_behind, written_read, written_sound}
-use Rattle.std.proofs.lemmas.Option.{none-some, same_Some}
 
 -- An outcome is sound if the memory that was written is.
 refused_sound : {A : Type 0} (old new : RegisterMap) (result : Result A ProgramRefusal) (refusal : ProgramRefusal) → is_sound old ≡ true
@@ -33,9 +31,7 @@ answered_sound : {A : Type 0} (old new : RegisterMap) (result : Result A Program
     → is_sound old ≡ true → ((m : RegisterMap) → outcome ≡ Ok m → is_sound m ≡ true)
     → HasOutcome old new result (memory_with_answer answer outcome)
     → is_sound new ≡ true
-answered_sound old new result answer (Ok memory) sound each has =
-    subst (λ (m : RegisterMap). is_sound m ≡ true) (sym has.1) (each memory refl)
-answered_sound old new result answer (Err refusal) sound each has = refused_sound old new result refusal sound has
+answered_sound old new result answer outcome sound each has = search (rules, refused_sound)
 
 pub written_outcome : {A : Type 0} (old new : RegisterMap) (result : Result A ProgramRefusal) (answer : A) (lines : List Line)
     → is_sound old ≡ true → HasOutcome old new result (memory_with_answer answer (with_program_lines old lines)) → is_sound new ≡ true
@@ -65,16 +61,12 @@ edit_sound old new change at result sound edits = elim edits.1 [
 loaded_sound : (old new : RegisterMap) (lines : List ListedLine) (loaded : Option (List Line)) (result : Result ℕ ProgramRefusal)
     → is_sound old ≡ true → HasOutcome old new result (load_outcome old lines loaded) → is_sound new ≡ true
 loaded_sound old new lines None result sound has = refused_sound old new result BrokenProgram sound has
-loaded_sound old new lines (Some loaded) result sound has =
-    written_outcome old new result (length (packed_lines (with_last_end (lines_of lines)))) (with_last_end (lines_of lines) ++ loaded) sound
-    has
+loaded_sound old new lines (Some loaded) result sound has = search (rules, refused_sound, written_outcome)
 
 behind_sound : (old new : RegisterMap) (bytes : List ℕ) (before : Option (List ListedLine))
     (outcome : Result (RegisterMap × ℕ) ProgramRefusal) (result : Result ℕ ProgramRefusal)
     → is_sound old ≡ true → LoadsBehind old bytes before outcome → HasOutcome old new result outcome → is_sound new ≡ true
-behind_sound old new bytes None outcome result sound loads has =
-    refused_sound old new result BrokenProgram sound
-    (subst (λ (o : Result (RegisterMap × ℕ) ProgramRefusal). HasOutcome old new result o) loads has)
+behind_sound old new bytes None outcome result sound loads has = search (rules, refused_sound, loaded_sound)
 behind_sound old new bytes (Some lines) outcome result sound loads has =
     loaded_sound old new lines (loaded_of bytes loads.0) result sound
     (subst (λ (o : Result (RegisterMap × ℕ) ProgramRefusal). HasOutcome old new result o) loads.2 has)
@@ -88,29 +80,14 @@ refused_is_not_done : (new : RegisterMap) (start : ℕ) (refusal : ProgramRefusa
     → ◌≡◌ {A = Result (RegisterMap × ℕ) ProgramRefusal} (Ok (new, start)) (Err refusal) → ⊥
 refused_is_not_done new start refusal same = cc
 
-pair_of : (new other : RegisterMap) (start begin : ℕ)
-    → ◌≡◌ {A = Result (RegisterMap × ℕ) ProgramRefusal} (Ok (new, start)) (Ok (other, begin)) → (other ≡ new) × (begin ≡ start)
-pair_of new other start begin same =
-    let pair : (other, begin) ≡ (new, start) = cc in
-    (ap (λ (p : RegisterMap × ℕ). p.0) pair, ap (λ (p : RegisterMap × ℕ). p.1) pair)
-
 was_written : (new : RegisterMap) (start answer : ℕ) (outcome : Result RegisterMap ProgramRefusal)
     → Ok (new, start) ≡ memory_with_answer answer outcome → (outcome ≡ Ok new) × (answer ≡ start)
-was_written new start answer (Ok memory) same =
-    let both = pair_of new memory start answer same in (ap (λ (m : RegisterMap). Ok m) both.0, both.1)
-was_written new start answer (Err refusal) same = absurd (refused_is_not_done new start refusal same)
+was_written new start answer outcome same = search rules
 
 -- The lines of bytes that are to be loaded are inner.
-tested : (b : Bool) (lines loaded : List Line) → (if b then Some lines else None) ≡ Some loaded → lines ≡ loaded
-tested true lines loaded same = same_Some lines loaded same
-tested false lines loaded same = absurd (none-some loaded same)
-
 inner_of : (bytes : List ℕ) (given : List ListedLine) (loaded : List Line) → Reads bytes (length bytes) 0 given
     → loaded_of bytes given ≡ Some loaded → All IsInner loaded
-inner_of bytes given loaded reads taken =
-    subst (λ (lines : List Line). All IsInner lines)
-    (tested (list_all (λ byte. byte == 0) (drop (end_of_lines given) bytes)) (without_end (lines_of given)) loaded taken)
-    (loaded_inner bytes (length bytes) 0 given reads)
+inner_of bytes given loaded reads taken = search (rules, loaded_inner)
 
 module _ (again : ByteRoundTrip) (memory new : RegisterMap) (bytes : List ℕ) (start : ℕ) (sound : is_sound memory ≡ true) where
   leaves_joined : (lines before given : List ListedLine) (loaded : Option (List Line)) → LinesFrom memory 0 lines
@@ -138,23 +115,11 @@ module _ (again : ByteRoundTrip) (memory new : RegisterMap) (bytes : List ℕ) (
 
   leaves_behind : (lines : List ListedLine) (before : Option (List ListedLine)) → LinesFrom memory 0 lines → before_end lines ≡ before
       → LoadsBehind memory bytes before (Ok (new, start)) → LeavesLoaded memory bytes new start
-  leaves_behind lines None from own loads = absurd (refused_is_not_done new start BrokenProgram loads)
-  leaves_behind lines (Some before) from own loads =
-      leaves_joined lines before loads.0 (loaded_of bytes loads.0) from own loads.1 refl loads.2
+  leaves_behind lines before from own loads = search (rules, leaves_joined)
 
--- Memory that is not sound accepts no load.
-lost_end : (lines : List ListedLine) → lines ≡ [] → before_end lines ≡ None
-lost_end lines none = ap before_end none
-
+-- A load is read again. Memory that is not sound accepts none.
 pub load_read : ByteRoundTrip → LoadIsRead
-load_read again memory new bytes start loads = elim (cases_Bool (is_sound memory)) [
-  | inl sound ↦ leaves_behind again memory new bytes start sound loads.0 (before_end loads.0) loads.1 refl loads.2
-  | inr lost ↦
-      let refused : Ok (new, start) ≡ Err BrokenProgram =
-      subst (λ (before : Option (List ListedLine)). LoadsBehind memory bytes before (Ok (new, start)))
-      (lost_end loads.0 (loads.1.lost lost)) loads.2 in
-      absurd (refused_is_not_done new start BrokenProgram refused)
-]
+load_read again memory new bytes start loads = search (rules, leaves_behind)
 
 -- The memory after an edit.
 written_reads : ByteRoundTrip
@@ -162,24 +127,18 @@ written_reads : ByteRoundTrip
     → is_sound old ≡ true → All IsInner lines → with_program_lines old lines ≡ outcome
     → HasOutcome old left result (memory_with_answer tt outcome)
     → OnOk result (HasLines left 0 lines)
-written_reads again old left result lines (Ok memory) sound inner is has =
-    rw has.0 (written_read again old left lines sound inner (is ∙ ap (λ (m : RegisterMap). Ok m) (sym has.1)))
-written_reads again old left result lines (Err refusal) sound inner is has = rw has.0 tt
+written_reads again old left result lines outcome sound inner is has = search (rules, written_read)
 
 changed_reads : ByteRoundTrip → (b : Bool) (old left : RegisterMap) (result : Result (Unit {0}) ProgramRefusal) (lines : List Line)
     → is_sound old ≡ true → All IsInner lines → HasOutcome old left result (changed_outcome b old lines)
     → OnOk result (HasLines left 0 lines)
-changed_reads again true old left result lines sound inner has =
-    written_reads again old left result lines (with_program_lines old lines) sound inner refl has
-changed_reads again false old left result lines sound inner has = rw has.0 tt
+changed_reads again b old left result lines sound inner has = search (rules, written_reads)
 
 leaves : (old left : RegisterMap) (change : ℕ → ListedLine → List Line) (at : ℕ)
     (result : Result (Unit {0}) ProgramRefusal) (first : ListedLine) (lines : List ListedLine)
     → FirstFrom (program_bytes old) (final_position old) at first → LinesFrom old 0 lines
     → OnOk result (HasLines left 0 (flat_map (change first.position) lines)) → OnOk result (LeavesChanged old change at left)
-leaves old left change at (Ok done) first lines stands from has =
-    record { first = first; lines = lines; listed = has.0; stands = stands; from = from; read = has.1; same = has.2 }
-leaves old left change at (Err refusal) first lines stands from has = tt
+leaves old left change at result first lines stands from has = search rules
 
 pub edit_read : ByteRoundTrip
     → (old left : RegisterMap) (change : ℕ → ListedLine → List Line) (at : ℕ) (result : Result (Unit {0}) ProgramRefusal)

@@ -1,13 +1,13 @@
 -- Lines packed one after another.
-use Rattle.std.proofs.Common.{◌≡◌, ℕ, ◌+◌, ◌/◌, ◌<◌, ◌≤◌, List, [], ◌∷◌, ◌++◌, length, replicate, refl, sym, ◌∙◌, ap, arith, inl, inr}
-use Rattle.std.proofs.Common.{append_assoc, append-nil, length-append, true≢false, Some}
+use Rattle.std.proofs.Common.{◌≡◌, ℕ, ◌+◌, ◌/◌, ◌<◌, ◌≤◌, List, [], ◌∷◌, ◌++◌, length, refl, sym, ◌∙◌, ap, arith, inl, inr}
+use Rattle.std.proofs.Common.{append_assoc, append-nil, length-append, true≢false, Some, rules}
 use Rattle.std.proofs.lemmas.Bool.{cases_Bool}
 use Rattle.std.proofs.lemmas.List.{length-replicate}
 use Rattle.h41_codes.specs.ByteGrammar.{spelling}
 use Rattle.h41_codes.specs.declared.line.Line.{Line}
 use Rattle.h41_program.specs.declared.packer.Packer.{Packer}
 use Rattle.h41_program.specs.Lines.{is_number}
-use Rattle.h41_program.specs.Packing.{last_line, gap, packed_lines, filler, filled_up, written_end, packing}
+use Rattle.h41_program.specs.Packing.{last_line, packed_lines, filler, filled_up, packing}
 use Rattle.h41_program.specs.private.Packers.{Packs, Pushes, null_between}
 
 pub last_line-more : (lines : List Line) (line : Line) → last_line (lines ++ line ∷ []) ≡ Some line
@@ -20,9 +20,7 @@ pub packed-more : (lines : List Line) (line : Line)
     → packed_lines (lines ++ line ∷ []) ≡ packed_lines lines ++ null_between (is_number line) (last_line lines) ++ spelling line
 packed-more [] line = simp append-nil
 packed-more (one ∷ []) line = simp (append-nil, append_assoc)
-packed-more (one ∷ next ∷ lines) line =
-    ap (λ (rest : List ℕ). spelling one ++ gap one (next ∷ lines) ++ rest) (packed-more (next ∷ lines) line)
-    ∙ simp append_assoc
+packed-more (one ∷ next ∷ lines) line = search (rules, append-nil, append_assoc, packed-more (next ∷ lines) line)
 
 -- Lines after others are separated from the last of these.
 pub packed-join : (lines : List Line) (line : Line) (rest : List Line)
@@ -30,28 +28,13 @@ pub packed-join : (lines : List Line) (line : Line) (rest : List Line)
     ++ packed_lines (line ∷ rest)
 packed-join [] line rest = refl
 packed-join (one ∷ []) line rest = simp (append-nil, append_assoc)
-packed-join (one ∷ next ∷ lines) line rest =
-    ap (λ (all : List ℕ). spelling one ++ gap one (next ∷ lines) ++ all) (packed-join (next ∷ lines) line rest)
-    ∙ simp append_assoc
+packed-join (one ∷ next ∷ lines) line rest = search (rules, append-nil, append_assoc, packed-join (next ∷ lines) line rest)
 
 -- Lines without more lines after them have no more bytes.
 pub packed-less : (lines others : List Line) → length (packed_lines lines) ≤ length (packed_lines (lines ++ others))
 packed-less [] others = omega arith
-packed-less (line ∷ []) others =
-    omega (
-      arith,
-      length-append (spelling line ++ []) [],
-      length-append (spelling line) [],
-      length-append (spelling line ++ gap line others) (packed_lines others),
-      length-append (spelling line) (gap line others),
-    )
-packed-less (line ∷ next ∷ lines) others =
-    omega (
-      arith,
-      packed-less (next ∷ lines) others,
-      length-append (spelling line ++ gap line (next ∷ lines)) (packed_lines (next ∷ lines)),
-      length-append (spelling line ++ gap line (next ∷ lines)) (packed_lines ((next ∷ lines) ++ others)),
-    )
+packed-less (line ∷ []) others = search (rules, length-append)
+packed-less (line ∷ next ∷ lines) others = search (rules, length-append, packed-less (next ∷ lines) others)
 
 -- A line was appended to others.
 pub puts : (old mid new : Packer) (line : Line) (lines : List Line) → Packs old lines
@@ -99,10 +82,7 @@ puts old mid new line lines packs parts pushes =
 
 -- The number of bytes with their nulls and .END.
 pub length-filled_up : (bytes : List ℕ) → length (filled_up bytes) ≡ length bytes + filler (length bytes) + 3
-length-filled_up bytes =
-    length-append (bytes ++ replicate (filler (length bytes)) 0) written_end
-    ∙ ap (λ n. n + 3) (length-append bytes (replicate (filler (length bytes)) 0)
-    ∙ ap (λ n. length bytes + n) (length-replicate (filler (length bytes)) 0))
+length-filled_up bytes = search (rules, length-append, length-replicate)
 
 -- The number of bytes of a packing.
 pub length-packing : (lines : List Line) → length (packing lines) ≡ length (packed_lines lines) + filler (length (packed_lines lines)) + 3

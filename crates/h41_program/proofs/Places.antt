@@ -1,5 +1,5 @@
 -- The place of the line at a position, by the first of the bytes that are examined there.
-use Rattle.std.proofs.Common.{◌≡◌, ℕ, suc, ◌+◌, ◌-◌, ◌/◌, ◌%◌, ◌<◌, ◌≤◌, true, false, List, min, length, get_or, Option, Some, None}
+use Rattle.std.proofs.Common.{◌≡◌, ℕ, suc, ◌+◌, ◌-◌, ◌/◌, ◌%◌, ◌<◌, ◌≤◌, true, false, List, min, length, get_or, Option, Some, None, rules}
 use Rattle.std.proofs.Common.{IfSome, IfNone, [], refl, sym, ◌∙◌, ap, subst, arith, inl, inr}
 use Rattle.std.proofs.lemmas.Bool.{cases_eq}
 use Rattle.std.proofs.lemmas.List.FromFn.{get_or-map-range_with_len, length-map-range_with_len}
@@ -34,9 +34,7 @@ module _ (memory : RegisterMap) (at limit : ℕ) where
 
   pub seen_bytes : (size : ℕ) → size ≤ 18 → at + size ≤ limit → ((k : ℕ) → at ≤ k → k < at + size → program_byte memory k < 256)
       → Bytes seen size
-  seen_bytes size few inside all k below =
-      subst (λ (byte : ℕ). byte < 256) (sym (seen_byte k (omega (arith, few, below)) (omega (arith, inside, below))))
-      (all (at + k) (omega arith) (omega (arith, below)))
+  seen_bytes size few inside all k below = search (rules, seen_byte)
 
   -- There is no line, because the bytes do not satisfy the condition of their first byte.
   pub nothing : BeginsNoLine seen → BeginsNothing memory at limit
@@ -45,12 +43,7 @@ module _ (memory : RegisterMap) (at limit : ℕ) where
   -- The place of a line that ends neither a program nor memory.
   pub place_fits : (size : ℕ) (place : LinePlace) → Fits memory at limit size place → BeginsSized memory at limit size
       → BeginsAt memory at limit place
-  place_fits size place fits line = (
-    line.0,
-    size,
-    line.1,
-    fits.is ∙ (λ i. record { position = at; behind = at + size; ends_program = line.2.0 i; ends_memory = line.2.1 i }),
-  )
+  place_fits size place fits line = search rules
 
   pub some_fits : (size : ℕ) (found : Option LinePlace) → IfSome found (λ place. Fits memory at limit size place)
       → (((place : LinePlace) → Fits memory at limit size place → BeginsSized memory at limit size))
@@ -207,12 +200,7 @@ module _ (memory : RegisterMap) (at limit : ℕ) where
   pub number_there : (size : ℕ) → 1 ≤ size → size ≤ 16 → at + size ≤ limit
       → ((k : ℕ) → at ≤ k → k < at + size → IsIn 0x10 0x1D (program_byte memory k))
       → (at + size < limit → IsIn 0x10 0x1D (program_byte memory (at + size)) → size ≡ 16) → BeginsSized memory at limit size
-  number_there size some most inside each whole =
-      number_sized seen size some most (omega (arith, seen_length, inside, most))
-      (λ k below. subst (λ (b : ℕ). IsIn 0x10 0x1D b) (sym (seen_byte k (omega (arith, below, most)) (omega (arith, below, inside))))
-      (each (at + k) (omega arith) (omega (arith, below))))
-      (λ below on. whole (omega (arith, seen_length, below)) (subst (λ (b : ℕ). IsIn 0x10 0x1D b)
-      (seen_byte size (omega (arith, most)) (omega (arith, seen_length, below))) on))
+  number_there size some most inside each whole = search (rules, number_sized, seen_length, seen_byte)
 
   -- A line of one byte.
   pub alone_there : NumberBegins → at < limit → (byte : ℕ) → byte ≡ program_byte memory at → IsOneByte byte → IsAlone byte

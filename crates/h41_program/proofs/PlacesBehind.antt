@@ -1,5 +1,5 @@
 -- The line after nulls, or in the last three bytes.
-use Rattle.std.proofs.Common.{◌≡◌, ◌≢◌, ℕ, zero, suc, ◌+◌, ◌-◌, ◌<◌, ◌≤◌, min, true, false, refl, inl, inr, arith, subst}
+use Rattle.std.proofs.Common.{◌≡◌, ◌≢◌, ℕ, zero, suc, ◌+◌, ◌-◌, ◌<◌, ◌≤◌, min, true, false, refl, inl, inr, arith, subst, rules}
 use Rattle.std.proofs.lemmas.Bool.{cases_lt}
 use Rattle.h41_codes.specs.Heads.{IsIn}
 use Rattle.h41_digits.specs.Register.{IsRegister}
@@ -27,30 +27,10 @@ final_begins memory last sound register is =
 module _ (memory : RegisterMap) (at p last : ℕ) (last_is : last ≡ final_position memory) (count : last + 3 ≡ byte_count memory)
     (from : at ≤ p) (to : p ≤ last) (nulls : (k : ℕ) → at ≤ k → k < p → program_byte memory k ≡ 0) where
   pub looked_before : p < last → program_byte memory p ≢ 0 → Looked memory at p last last (bytes_seen memory p last)
-  looked_before below stop = record {
-    last_is = last_is;
-    count = count;
-    from = from;
-    to = to;
-    nulls = nulls;
-    stop = λ before. stop;
-    before = λ before. refl;
-    behind = λ here. absurd (omega (arith, here, below));
-    bytes = refl;
-  }
+  looked_before below stop = search rules
 
   pub looked_last : p ≡ last → Looked memory at last last (last + 3) (bytes_seen memory last (last + 3))
-  looked_last here = record {
-    last_is = last_is;
-    count = count;
-    from = omega (arith, from, here);
-    to = omega arith;
-    nulls = λ k low high. nulls k low (omega (arith, high, here));
-    stop = λ before. absurd (omega (arith, before));
-    before = λ before. absurd (omega (arith, before));
-    behind = λ same. refl;
-    bytes = refl;
-  }
+  looked_last here = search rules
 
 -- The position of a place.
 pub position_of : (memory : RegisterMap) (at : ℕ) (place : LinePlace) → HasPlace memory at place → PositionFrom memory at place.position

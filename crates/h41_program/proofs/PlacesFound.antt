@@ -1,6 +1,6 @@
 -- The first line from a position on, by the line with which the bytes there begin.
 use Rattle.std.proofs.Common.{◌≡◌, ℕ, ◌+◌, ◌-◌, ◌<◌, ◌≤◌, true, List, [], map, min, length, take, get_or, Option, Some, None, Result, Ok}
-use Rattle.std.proofs.Common.{Err, IfSome, IfNone, refl, sym, ◌∙◌, ap, subst, arith, inl, inr, length-take-le}
+use Rattle.std.proofs.Common.{Err, IfSome, IfNone, refl, sym, ◌∙◌, ap, subst, arith, inl, inr, length-take-le, rules}
 use Rattle.std.specs.List.{range_with_len}
 use Rattle.std.proofs.Math.ListN.{drop_of_length-le}
 use Rattle.std.proofs.lemmas.Bool.{cases_lt}
@@ -49,11 +49,7 @@ module _ (one : OneLine) (memory : RegisterMap) (sound : is_sound memory ≡ tru
 -- The bytes of the line are among those that are examined.
 pub some_behind : (memory : RegisterMap) (p limit most : ℕ) → limit ≤ most → p ≤ limit → (found : Option LinePlace)
     → IfSome found (λ place. BeginsAt memory p limit place) → IfSome found (λ place. place.behind ≤ most)
-some_behind memory p limit most few from None found = tt
-some_behind memory p limit most few from (Some place) found =
-    let inside = found.2.inside in
-    let long = length-map-range_with_len (program_byte memory) p (min 18 (limit - p)) in
-    subst (λ (n : ℕ). n ≤ most) (sym (ap (λ (there : LinePlace). there.behind) found.3)) (omega (arith, inside, long, few, from))
+some_behind memory p limit most few from inside found = search (rules, length-map-range_with_len)
 
 -- The bytes of a line alone begin with it.
 whole_alone : (line : Line) → IsComplete line []
@@ -61,18 +57,7 @@ whole_alone (Number characters) = λ goes. absurd goes
 whole_alone line = tt
 
 pub begins_own : (bytes : List ℕ) (line : Line) (size : ℕ) → Begins bytes line size → Begins (take size bytes) line size
-begins_own bytes line size begins =
-    let long = length-take-le size bytes begins.inside in
-    record {
-      inside = omega (arith, long);
-      spells = record {
-        valid = begins.spells.valid;
-        same = take-take size size bytes (omega arith) ∙ begins.spells.same;
-      };
-      whole =
-          subst (λ (rest : List ℕ). IsComplete line rest) (sym (drop_of_length-le (take size bytes) (omega (arith, long))))
-          (whole_alone line);
-    }
+begins_own bytes line size begins = search (rules, length-take-le, take-take, drop_of_length-le, whole_alone)
 
 -- The bytes of a place begin with its line.
 module _ (memory : RegisterMap) (sound : is_sound memory ≡ true) (at p next : ℕ) (line : Line)
@@ -119,23 +104,13 @@ module _ (memory : RegisterMap) (sound : is_sound memory ≡ true) (at p next : 
 
   -- The bytes of a place are those of memory.
   pub place_byte : (k : ℕ) → p + k < next → get_or (spelling line) k 0 ≡ program_byte memory (p + k)
-  place_byte k below =
-      let begins = place_begins in
-      let most = begins_most (bytes_seen memory p next) line (next - p) begins in
-      ap (λ (bytes : List ℕ). get_or bytes k 0) (sym begins.spells.same)
-      ∙ get_or-take (next - p) (bytes_seen memory p next) k 0 (omega (arith, below))
-      ∙ seen_byte memory p next k (omega (arith, below, most)) below
+  place_byte k below = search (rules, place_begins, begins_most, get_or-take, seen_byte)
 
   pub place_some : p < next
-  place_some =
-      let behind = has.behind in
-      let least = spelling_least line has.first.begins.spells.valid in
-      omega (arith, behind, least)
+  place_some = search (rules, spelling_least)
 
   pub place_inside : next ≤ byte_count memory
-  place_inside =
-      let less = has.inside in
-      omega (arith, less, length-map-range_with_len (program_byte memory) 0 (byte_count memory))
+  place_inside = search (rules, inside, length-map-range_with_len)
 
   pub place_from_to : p ≤ next
   place_from_to = let behind = has.behind in omega (arith, behind)
@@ -143,6 +118,4 @@ module _ (memory : RegisterMap) (sound : is_sound memory ≡ true) (at p next : 
 -- A line that is decoded from them is the same.
 pub same_answer : {E : Type 0} (bytes : List ℕ) (line other : Line) (size count : ℕ) (result : Result (Line × ℕ) E) → Begins bytes line size
     → AnswersLine result bytes → result ≡ Ok (other, count) → other ≡ line
-same_answer bytes line other size count result begins answers is =
-    let both : Ok (other, count) ≡ Ok (line, size) = sym is ∙ (answers line size).1 begins in
-    ok_line other line count size both
+same_answer bytes line other size count result begins answers is = search (rules, count, ok_line)

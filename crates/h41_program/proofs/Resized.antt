@@ -1,16 +1,13 @@
 -- Memory with another number of data registers: its programs moved unchanged, and it is sound.
-use Rattle.std.proofs.Common.{◌≡◌, ℕ, ◌+◌, ◌-◌, ◌/◌, ◌%◌, ◌<◌, ◌≤◌, true, false, List, length, get_or-set_same, refl, sym, ◌∙◌, ap, subst}
-use Rattle.std.proofs.Common.{arith, inl, inr, Result, Ok, Err}
-use Rattle.std.specs.Prelude.{nat_lt}
-use Rattle.std.proofs.lemmas.Bool.{cases_Bool}
+use Rattle.std.proofs.Common.{◌≡◌, ℕ, ◌+◌, ◌-◌, ◌/◌, ◌%◌, ◌<◌, ◌≤◌, true, List, length, get_or-set_same, refl, sym, ◌∙◌, ap, subst}
+use Rattle.std.proofs.Common.{arith, Result, Ok, Err, rules}
 use Rattle.std.proofs.lemmas.Bool.Decides.{nat_tests}
 use Rattle.std.proofs.lemmas.List.{ext_get_or}
 use Rattle.std.proofs.lemmas.List.FromFn.{get_or-map-range_with_len, length-map-range_with_len}
 use Rattle.h41_digits.specs.Register.{byte_at}
 use Rattle.h41_ram.specs.RegisterMap.{RegisterMap, main_start, zeros, register_at, c_of, curtain_of, end_of, constant_of, is_sound}
-use Rattle.h41_ram.specs.RegisterMap.{is_final_end, three_digits, with_three_places}
+use Rattle.h41_ram.specs.RegisterMap.{three_digits, with_three_places}
 use Rattle.h41_program.specs.declared.refusal.ProgramRefusal.{ProgramRefusal}
-use Rattle.h41_program.specs.declared.refusal.ProgramRefusal.TheVariants.{NoRoom, SizeTooLarge}
 use Rattle.h41_program.specs.ProgramBytes.{byte_count, program_byte, program_bytes, final_position}
 use Rattle.h41_program.specs.ProgramLaws.{SizeKeepsLines}
 use Rattle.h41_program.specs.ProgramLines.{LinesFrom, Reads}
@@ -20,13 +17,6 @@ use Rattle.h41_program.proofs.Addresses.{c_long, c_there, length-three_places, s
 use Rattle.h41_program.proofs.Rewritten.{main_at}
 use Rattle.h41_program.proofs.Sound.{bounds, constant, ends}
 use Rattle.h41_program.proofs.Walks.{from_reads}
-use Rattle.h41_program.proofs.Cases.{above_test, below_test}
-
-holds : (a b : ℕ) → nat_lt a b ≡ true → a < b
-holds a b test = grind (arith, nat_tests)
-
-fails : (a b : ℕ) → nat_lt a b ≡ false → b ≤ a
-fails a b test = grind (arith, nat_tests)
 
 module _ (memory : RegisterMap) (sound : is_sound memory ≡ true) (size : ℕ) (small : size < length memory.main)
     (room : main_start + curtain_of memory ≤ moved_curtain memory size + end_of memory) where
@@ -57,10 +47,7 @@ module _ (memory : RegisterMap) (sound : is_sound memory ≡ true) (size : ℕ) 
       let same = length-three_places (c_of memory) 0 (moved_end memory size) in omega (arith, long, same))
 
   constant_new : constant_of new ≡ 0x169
-  constant_new =
-      ap (λ (c : List ℕ). three_digits c 6) c_new ∙ three_below with_curtain 11 (moved_statistics memory size) 6 (omega arith)
-      ∙ three_above with_end 3 (moved_curtain memory size) 6 (omega arith)
-      ∙ three_above (c_of memory) 0 (moved_end memory size) 6 (omega arith) ∙ constant memory sound
+  constant_new = search (rules, c_new, three_below, three_above, constant)
 
   top_new : length new.main ≡ length memory.main
   top_new = length-map-range_with_len (resized_register memory size) main_start (length memory.main)
@@ -68,30 +55,10 @@ module _ (memory : RegisterMap) (sound : is_sound memory ≡ true) (size : ℕ) 
   -- A register of the programs is unchanged.
   own_register : (address : ℕ) → moved_end memory size ≤ address → address < moved_curtain memory size
       → register_at new address ≡ register_at memory (address + end_of memory - moved_end memory size)
-  own_register address from below =
-      let order = (bounds memory sound).order in
-      let above = above_test address (moved_end memory size) from in
-      let under = below_test address (moved_curtain memory size) below in
-      let read : register_at new address ≡ resized_register memory size address =
-      main_at new address (omega (arith, from, room, order))
-      ∙ get_or-map-range_with_len (resized_register memory size) main_start (length memory.main) (address - main_start)
-      address zeros (omega (arith, from, below, room, order)) (omega (arith, from, room, order)) in
-      read ∙ chosen address above under
-    where
-      chosen : (address : ℕ) → nat_lt address (moved_end memory size) ≡ false → nat_lt address (moved_curtain memory size) ≡ true
-          → resized_register memory size address ≡ register_at memory (address + end_of memory - moved_end memory size)
-      chosen address above under = rw (above, under) refl
+  own_register address from below = search (rules, bounds, main_at, get_or-map-range_with_len, nat_tests)
 
   pub size_sound : is_sound new ≡ true
-  size_sound =
-      let order = (bounds memory sound).order in
-      let back : moved_end memory size + end_of memory - moved_end memory size ≡ end_of memory = omega arith in
-      let register : register_at new (end_of new) ≡ register_at memory (end_of memory) =
-      ap (register_at new) end_new ∙ own_register (moved_end memory size) (omega arith) (omega (arith, order, room))
-      ∙ ap (register_at memory) back in
-      sound_by new constant_new (omega (arith, end_new, order, room))
-      (omega (arith, end_new, curtain_new, order, room)) (omega (arith, curtain_new, top_new))
-      (ap is_final_end register ∙ ends memory sound)
+  size_sound = search (rules, bounds, end_new, own_register, sound_by, constant_new, curtain_new, top_new, ends)
 
   pub size_count : byte_count new ≡ byte_count memory
   size_count = let order = (bounds memory sound).order in omega (arith, end_new, curtain_new, order, room)
@@ -125,46 +92,12 @@ pub record Fits (memory : RegisterMap) (size : ℕ) (after : RegisterMap) : Type
   pub room : main_start + curtain_of memory ≤ moved_curtain memory size + end_of memory
   pub same : after ≡ with_size memory size
 
-refused_is_not_done : (after : RegisterMap × Unit {0}) (refusal : ProgramRefusal)
-    → ◌≡◌ {A = Result (RegisterMap × Unit {0}) ProgramRefusal} (Err refusal) (Ok after) → ⊥
-refused_is_not_done after refusal same = cc
-
-same_memory : (one other : RegisterMap) → ◌≡◌ {A = Result (RegisterMap × Unit {0}) ProgramRefusal} (Ok (one, tt)) (Ok (other, tt))
-    → other ≡ one
-same_memory one other same =
-    let pair : ◌≡◌ {A = RegisterMap × Unit {0}} (other, tt) (one, tt) = cc in
-    ap (λ (p : RegisterMap × Unit {0}). p.0) pair
-
 pub fits_outcome : (memory after : RegisterMap) (size : ℕ) → Fits memory size after
     → HasOutcome {A = Unit {0}} memory after (Ok tt) (size_outcome memory size)
-fits_outcome memory after size fits =
-    let done : size_outcome memory size ≡ Ok (with_size memory size, tt) =
-    rw (
-      below_test size (length memory.main) fits.small,
-      above_test (moved_curtain memory size + end_of memory) (main_start + curtain_of memory) fits.room,
-    )
-    refl in
-    subst (λ (o : Result (RegisterMap × Unit {0}) ProgramRefusal). HasOutcome {A = Unit {0}} memory after (Ok tt) o)
-    (sym done) (refl, fits.same)
+fits_outcome memory after size fits = search (rules, nat_tests)
 
 pub size_fits : (memory after : RegisterMap) (size : ℕ) → size_outcome memory size ≡ Ok (after, tt) → Fits memory size after
-size_fits memory after size done = elim (cases_Bool (nat_lt size (length memory.main))) [
-  | inl small ↦ elim (cases_Bool (nat_lt (moved_curtain memory size + end_of memory) (main_start + curtain_of memory))) [
-    | inl none ↦
-        let refused : size_outcome memory size ≡ Err NoRoom = rw (small, none) refl in
-        absurd (refused_is_not_done (after, tt) NoRoom (sym refused ∙ done))
-    | inr room ↦
-        let taken : size_outcome memory size ≡ Ok (with_size memory size, tt) = rw (small, room) refl in
-        record {
-          small = holds size (length memory.main) small;
-          room = fails (moved_curtain memory size + end_of memory) (main_start + curtain_of memory) room;
-          same = same_memory (with_size memory size) after (sym taken ∙ done);
-        }
-  ]
-  | inr large ↦
-      let refused : size_outcome memory size ≡ Err SizeTooLarge = rw large refl in
-      absurd (refused_is_not_done (after, tt) SizeTooLarge (sym refused ∙ done))
-]
+size_fits memory after size done = search (rules, nat_tests)
 
 size_sound_by : (old left : RegisterMap) (size : ℕ) (result : Result (Unit {0}) ProgramRefusal)
     (outcome : Result (RegisterMap × Unit {0}) ProgramRefusal)

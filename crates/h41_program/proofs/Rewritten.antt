@@ -1,7 +1,6 @@
 -- Memory whose programs were written again: its addresses, its bytes, and that it is sound.
-use Rattle.std.proofs.Common.{◌≡◌, ℕ, zero, suc, ◌+◌, ◌-◌, ◌*◌, ◌/◌, ◌%◌, ◌<◌, ◌≤◌, true, false, List, length, get_or, get_or-set_same}
-use Rattle.std.proofs.Common.{refl, sym, ◌∙◌, ap, arith}
-use Rattle.std.specs.Prelude.{nat_lt}
+use Rattle.std.proofs.Common.{◌≡◌, ℕ, zero, suc, ◌+◌, ◌-◌, ◌*◌, ◌/◌, ◌%◌, ◌<◌, ◌≤◌, true, List, length, get_or, get_or-set_same}
+use Rattle.std.proofs.Common.{refl, sym, ◌∙◌, ap, arith, rules}
 use Rattle.std.proofs.lemmas.List.{ext_get_or}
 use Rattle.std.proofs.lemmas.List.FromFn.{get_or-map-range_with_len, length-map-range_with_len}
 use Rattle.h41_digits.specs.Register.{byte_at}
@@ -11,7 +10,7 @@ use Rattle.h41_program.specs.ProgramBytes.{byte_count, program_byte, program_byt
 use Rattle.h41_program.specs.Rewriting.{end_after, program_register, with_program_bytes, rewritten_register}
 use Rattle.h41_program.proofs.Addresses.{c_long, c_there, sound_by, three_above, three_again}
 use Rattle.h41_program.proofs.Sound.{bounds, constant}
-use Rattle.h41_program.proofs.Cases.{above_test, below_test}
+use Rattle.std.proofs.lemmas.Bool.Decides.{nat_tests}
 
 -- A byte is its two digits.
 halves : (byte : ℕ) → byte / 16 * 16 + byte % 16 ≡ byte
@@ -23,14 +22,10 @@ pub byte_again : (bytes : List ℕ) (below k p : ℕ) → k < 7 → p ≡ 7 * be
 byte_again bytes below zero p inside same = halves (get_or bytes (7 * below) 0) ∙ ap (λ i. get_or bytes i 0) (omega arith)
 byte_again bytes below (suc zero) p inside same = halves (get_or bytes (7 * below + 1) 0) ∙ ap (λ i. get_or bytes i 0) (sym same)
 byte_again bytes below (suc (suc zero)) p inside same = halves (get_or bytes (7 * below + 2) 0) ∙ ap (λ i. get_or bytes i 0) (sym same)
-byte_again bytes below (suc (suc (suc zero))) p inside same =
-    halves (get_or bytes (7 * below + 3) 0) ∙ ap (λ i. get_or bytes i 0) (sym same)
-byte_again bytes below (suc (suc (suc (suc zero)))) p inside same =
-    halves (get_or bytes (7 * below + 4) 0) ∙ ap (λ i. get_or bytes i 0) (sym same)
-byte_again bytes below (suc (suc (suc (suc (suc zero))))) p inside same =
-    halves (get_or bytes (7 * below + 5) 0) ∙ ap (λ i. get_or bytes i 0) (sym same)
-byte_again bytes below (suc (suc (suc (suc (suc (suc zero)))))) p inside same =
-    halves (get_or bytes (7 * below + 6) 0) ∙ ap (λ i. get_or bytes i 0) (sym same)
+byte_again bytes below (suc (suc (suc zero))) p inside same = search rules
+byte_again bytes below (suc (suc (suc (suc zero)))) p inside same = search rules
+byte_again bytes below (suc (suc (suc (suc (suc zero))))) p inside same = search rules
+byte_again bytes below (suc (suc (suc (suc (suc (suc zero)))))) p inside same = search rules
 byte_again bytes below (suc (suc (suc (suc (suc (suc (suc k))))))) p inside same = absurd (omega arith)
 
 -- A register that ends in .END.
@@ -41,17 +36,11 @@ end_register bytes below first last = rw (first, last) refl
 -- The register at an address of main memory.
 pub main_at : (memory : RegisterMap) (address : ℕ) → main_start ≤ address
     → register_at memory address ≡ get_or memory.main (address - main_start) zeros
-main_at memory address from =
-    let status : nat_lt address 0x010 ≡ false = above_test address 0x010 (omega (arith, from)) in
-    let main : nat_lt address main_start ≡ false = above_test address main_start from in
-    rw (status, main) refl
+main_at memory address from = search (rules, nat_tests)
 
 main_register : (memory : RegisterMap) (bytes : List ℕ) (address : ℕ) → main_start ≤ address → address < top_of memory
     → register_at (with_program_bytes memory bytes) address ≡ rewritten_register memory bytes address
-main_register memory bytes address from below =
-    main_at (with_program_bytes memory bytes) address from
-    ∙ get_or-map-range_with_len (rewritten_register memory bytes) main_start (length memory.main)
-    (address - main_start) address zeros (omega (arith, from, below)) (omega (arith, from))
+main_register memory bytes address from below = search (rules, main_at, get_or-map-range_with_len)
 
 -- Bytes that fill registers, and for which there is room.
 module _ (memory : RegisterMap) (sound : is_sound memory ≡ true) (bytes : List ℕ)
@@ -67,38 +56,20 @@ module _ (memory : RegisterMap) (sound : is_sound memory ≡ true) (bytes : List
   c_new = get_or-set_same memory.status 13 (with_three_places (c_of memory) 0 (end_after memory bytes)) zeros (c_there memory sound)
 
   end_new : end_of new ≡ curtain_of memory - count
-  end_new =
-      ap (λ (c : List ℕ). three_digits c 0) c_new
-      ∙ three_again (c_of memory) 0 (end_after memory bytes) (let long = c_long memory sound in omega (arith, long)) ∙ end
+  end_new = search (rules, c_new, three_again, c_long, end)
 
   curtain_new : curtain_of new ≡ curtain_of memory
   curtain_new = ap (λ (c : List ℕ). three_digits c 3) c_new ∙ three_above (c_of memory) 0 (end_after memory bytes) 3 (omega arith)
 
   constant_new : constant_of new ≡ 0x169
-  constant_new =
-      ap (λ (c : List ℕ). three_digits c 6) c_new ∙ three_above (c_of memory) 0 (end_after memory bytes) 6 (omega arith)
-      ∙ constant memory sound
+  constant_new = search (rules, c_new, three_above, constant)
 
   top_new : length new.main ≡ length memory.main
   top_new = length-map-range_with_len (rewritten_register memory bytes) main_start (length memory.main)
 
   -- A register of the programs.
   own_register : (below : ℕ) → below < count → register_at new (curtain_of memory - 1 - below) ≡ program_register bytes below
-  own_register below inside =
-      let high = (bounds memory sound).high in
-      let address = curtain_of memory - 1 - below in
-      let above : nat_lt address (end_after memory bytes) ≡ false =
-      above_test address (end_after memory bytes) (omega (arith, end, inside, room)) in
-      let under : nat_lt address (curtain_of memory) ≡ true = below_test address (curtain_of memory) (omega (arith, inside, room)) in
-      let back : curtain_of memory - 1 - address ≡ below = omega (arith, inside, room) in
-      main_register memory bytes address (omega (arith, inside, room)) (omega (arith, inside, room, high))
-      ∙ chosen above under ∙ ap (program_register bytes) back
-    where
-      chosen : nat_lt (curtain_of memory - 1 - below) (end_after memory bytes) ≡ false
-          → nat_lt (curtain_of memory - 1 - below) (curtain_of memory) ≡ true
-          → rewritten_register memory bytes (curtain_of memory - 1 - below)
-          ≡ program_register bytes (curtain_of memory - 1 - (curtain_of memory - 1 - below))
-      chosen above under = rw (above, under) refl
+  own_register below inside = search (rules, bounds, end, main_register, nat_tests)
 
   pub count_new : byte_count new ≡ length bytes
   count_new = omega (arith, curtain_new, end_new, size, room)

@@ -1,16 +1,15 @@
 -- Packed lines are read again.
-use Rattle.std.proofs.Common.{◌≡◌, ℕ, suc, zero, ◌+◌, ◌-◌, ◌<◌, ◌≤◌, Bool, true, false, List, [], ◌∷◌, ◌++◌, length, take, drop, get_or}
-use Rattle.std.proofs.Common.{replicate, refl, sym, ◌∙◌, ap, subst, arith, inl, inr, append_assoc, append-nil, length-append, All}
+use Rattle.std.proofs.Common.{◌≡◌, ℕ, suc, ◌+◌, ◌-◌, ◌<◌, ◌≤◌, Bool, false, List, [], ◌∷◌, ◌++◌, length, take, get_or}
+use Rattle.std.proofs.Common.{replicate, refl, sym, ◌∙◌, ap, subst, arith, append_assoc, append-nil, length-append, All, rules}
 use Rattle.std.specs.Prelude.{MatchBool, ◌&&◌, if◌then◌else◌}
 use Rattle.std.specs.Option.{option_map_or}
-use Rattle.std.proofs.lemmas.Bool.{cases_lt, cases_Bool, false≢true}
 use Rattle.std.proofs.lemmas.List.{length-replicate, get_or_append_left, get_or-append-add, get_or-replicate}
 use Rattle.std.proofs.Math.ListN.{get_or-eq_default}
 use Rattle.std.proofs.Math.Seq.{drop-append_seam}
 use Rattle.h41_codes.specs.ByteGrammar.{spelling, IsLine, IsComplete, GoesOn, Begins}
-use Rattle.h41_codes.specs.ByteLaws.{ByteRoundTrip, IsNumber}
+use Rattle.h41_codes.specs.ByteLaws.{ByteRoundTrip}
 use Rattle.h41_codes.specs.declared.line.Line.{Line}
-use Rattle.h41_codes.specs.declared.line.Line.TheVariants.{Null, Number, FinalEnd}
+use Rattle.h41_codes.specs.declared.line.Line.TheVariants.{FinalEnd}
 use Rattle.h41_codes.proofs.FirstBytes.{number_begins}
 use Rattle.h41_codes.proofs.LineLengths.{spelling_least}
 use Rattle.h41_program.specs.declared.listed_line.ListedLine.{ListedLine}
@@ -24,12 +23,9 @@ use Rattle.h41_program.specs.ProgramLines.{Reads}
 use Rattle.h41_program.proofs.FirstLines.{line_bytes-below, line_bytes-at}
 use Rattle.h41_program.proofs.Inner.{not_final, not_null}
 use Rattle.h41_program.proofs.Packings.{length-packing, packed-join}
+use Rattle.std.proofs.lemmas.Grind.{common_steps}
 
--- Nulls separate a number from the bytes after them.
-nulls_stop : (n : ℕ) → GoesOn (replicate n 0) → ⊥
-nulls_stop zero goes = goes
-nulls_stop (suc n) goes = absurd (omega (arith, goes.0))
-
+-- The bytes of the first line, of the gap after it, and of the others.
 parts : (next : Line) (lines : List Line) (n : ℕ)
     → packed_lines (next ∷ lines) ++ replicate n 0 ≡ spelling next ++ (gap next lines ++ (packed_lines lines ++ replicate n 0))
 parts next lines n = simp append_assoc
@@ -38,20 +34,13 @@ abbrev one_null : Bool → List ℕ
 one_null b = if b then 0 ∷ [] else []
 
 chosen_null : (b : Bool) (k : ℕ) → get_or (one_null b) k 0 ≡ 0
-chosen_null true zero = refl
-chosen_null true (suc k) = refl
-chosen_null false k = refl
+chosen_null b k = search rules
 
 all_null : (n k : ℕ) → ◌≡◌ {A = ℕ} (get_or (replicate n 0) k 0) 0
-all_null n k = elim (cases_lt k n) [
-  | inl inside ↦ get_or-replicate n k 0 0 inside
-  | inr past ↦ get_or-eq_default (replicate n 0) 0 (omega (arith, length-replicate {A = ℕ} n 0))
-]
+all_null n k = search (rules, get_or-replicate, get_or-eq_default, length-replicate)
 
 after_front : (xs ys : List ℕ) (k : ℕ) → length xs ≤ k → get_or (xs ++ ys) k 0 ≡ get_or ys (k - length xs) 0
-after_front xs ys k above =
-    let place : k ≡ length xs + (k - length xs) = omega arith in
-    ap (λ m. get_or (xs ++ ys) m 0) place ∙ get_or-append-add xs ys (k - length xs) 0
+after_front xs ys k above = search (rules, get_or-append-add)
 
 -- The first line, and the others.
 pub first_inner : (line : Line) (lines : List Line) → All IsInner (line ∷ lines) → IsInner line
@@ -63,43 +52,21 @@ others_inner line lines inner = λ k d below. inner (suc k) d (omega (arith, bel
 -- Bytes that end in nulls, followed by more nulls.
 body_null : (front : List ℕ) (n at : ℕ) → ((k : ℕ) → at ≤ k → k < length front → get_or front k 0 ≡ 0) → (k : ℕ) → at ≤ k
     → get_or (front ++ replicate n 0) k 0 ≡ 0
-body_null front n at nulls k low = elim (cases_lt k (length front)) [
-  | inl before ↦ get_or_append_left front (replicate n 0) 0 k before ∙ nulls k low before
-  | inr above ↦ after_front front (replicate n 0) k above ∙ all_null n (k - length front)
-]
+body_null front n at nulls k low = search (rules, get_or_append_left, after_front, all_null)
 
 -- The bytes of .END.
 end_begins : Begins written_end (FinalEnd 0 0) 3
 end_begins = record { inside = omega arith; spells = record { valid = (omega arith, omega arith); same = refl }; whole = tt }
 
--- A number passes the test for numbers.
-number_passes : (line : Line) → IsNumber line → is_number line ≡ true
-number_passes (Number characters) is = refl
-number_passes Null is = absurd is
-number_passes line is = absurd is
-
 -- The bytes of the lines after a number do not continue the number.
 number_stops : (next : Line) (behind : List ℕ) → IsLine next → GoesOn ((if is_number next then 0 ∷ [] else []) ++ (spelling next ++ behind))
     → ⊥
-number_stops next behind valid goes = elim (cases_Bool (is_number next)) [
-  | inl number ↦
-      let stop : GoesOn (0 ∷ (spelling next ++ behind)) =
-      subst (λ (b : Bool). GoesOn ((if b then 0 ∷ [] else []) ++ (spelling next ++ behind))) number goes in
-      absurd (omega (arith, stop.0))
-  | inr other ↦
-      let on : GoesOn (spelling next ++ behind) =
-      subst (λ (b : Bool). GoesOn ((if b then 0 ∷ [] else []) ++ (spelling next ++ behind))) other goes in
-      false≢true (sym other ∙ number_passes next ((number_begins next behind valid).0 on))
-]
+number_stops next behind valid goes = search (rules, number_begins)
 
 -- A line is complete before the lines after it.
 follows_whole : (line : Line) (lines : List Line) (n : ℕ) → All IsInner lines
     → IsComplete line (gap line lines ++ (packed_lines lines ++ replicate n 0))
-follows_whole (Number characters) [] n inner = λ goes. absurd (nulls_stop n goes)
-follows_whole (Number characters) (next ∷ lines) n inner =
-    λ goes. absurd (number_stops next (gap next lines ++ (packed_lines lines ++ replicate n 0)) (first_inner next lines inner).valid
-    (subst (λ (l : List ℕ). GoesOn ((if is_number next then 0 ∷ [] else []) ++ l)) (parts next lines n) goes))
-follows_whole line lines n inner = tt
+follows_whole line lines n inner = search (rules, number_stops, first_inner, parts)
 
 -- The bytes after other bytes.
 take-front : (xs ys : List ℕ) → take (length xs) (xs ++ ys) ≡ xs
@@ -109,13 +76,7 @@ take-front (x ∷ xs) ys = ap (λ (l : List ℕ). x ∷ l) (take-front xs ys)
 -- The bytes that a line may take between other bytes and the last three.
 between : (front middle end : List ℕ) → 1 ≤ length middle
     → line_bytes ((front ++ middle) ++ end) (length (front ++ middle)) (length front) ≡ middle
-between front middle end some =
-    let size = length-append front middle in
-    line_bytes-below ((front ++ middle) ++ end) (length (front ++ middle)) (length front) (omega (arith, size))
-    ∙ ap (take (length (front ++ middle) - length front))
-    (ap (drop (length front)) (append_assoc front middle end) ∙ drop-append_seam front (middle ++ end))
-    ∙ ap (λ n. take n (middle ++ end)) (let all : length (front ++ middle) - length front ≡ length middle = omega (arith, size) in all)
-    ∙ take-front middle end
+between front middle end some = grind (arith, common_steps, length-append, line_bytes-below, append_assoc, drop-append_seam, take-front)
 
 -- The bytes between lines are nulls.
 gap_null : (line : Line) (lines : List Line) (k : ℕ) → get_or (gap line lines) k 0 ≡ 0

@@ -1,6 +1,6 @@
 -- Searches, line by line.
 use Rattle.std.proofs.Common.{◌≡◌, ℕ, ◌≤◌, Bool, true, false, List, [], ◌∷◌, ◌++◌, refl, sym, ◌∙◌, ap, Option, Some, None, arith, inl, inr}
-use Rattle.std.proofs.Common.{append_assoc}
+use Rattle.std.proofs.Common.{append_assoc, rules}
 use Rattle.std.proofs.Math.Bool.{and-false}
 use Rattle.std.proofs.lemmas.Bool.{cases_Bool}
 use Rattle.std.specs.Prelude.{◌&&◌, not, nat_lt, reverse, find, if◌then◌else◌, MatchBool}
@@ -48,11 +48,7 @@ chosen_position false listed found = refl
 
 pub start_in-more : (at : ℕ) (before : List ListedLine) (listed : ListedLine)
     → start_in at (before ++ listed ∷ []) ≡ (if is_end listed.line && nat_lt listed.position at then behind listed else start_in at before)
-start_in-more at before listed =
-    ap (λ (lines : List ListedLine). option_map_or behind (find (λ each. is_end each.line && nat_lt each.position at) lines) 0)
-    (back before listed)
-    ∙ chosen_start (is_end listed.line && nat_lt listed.position at) listed
-    (find (λ each. is_end each.line && nat_lt each.position at) (reverse before))
+start_in-more at before listed = search (rules, back, chosen_start)
 
 pub start_in-final : (at : ℕ) (before : List ListedLine) (listed : ListedLine) → is_final_end listed.line ≡ true
     → start_in at (before ++ listed ∷ []) ≡ start_in at before
@@ -61,11 +57,7 @@ start_in-final at before listed final = start_in-more at before listed ∙ (rw (
 -- A line at or after a position does not affect the start of the position's program, and neither do the lines after it.
 start_in-at : (at : ℕ) (before : List ListedLine) (listed : ListedLine) → at ≤ listed.position
     → start_in at (before ++ listed ∷ []) ≡ start_in at before
-start_in-at at before listed above =
-    let late = above_test listed.position at above in
-    let test : is_end listed.line && nat_lt listed.position at ≡ false =
-    ap (λ b. is_end listed.line && b) late ∙ and-false (is_end listed.line) in
-    start_in-more at before listed ∙ (rw test refl)
+start_in-at at before listed above = search (rules, above_test, and-false, start_in-more)
 
 pub start_in-behind : (at : ℕ) (bytes : List ℕ) (final next : ℕ) (before : List ListedLine)
     (listed : ListedLine) (rest : List ListedLine) → at ≤ listed.position → next ≡ behind listed
@@ -85,9 +77,7 @@ start_in-behind at bytes final next before listed (second ∷ rest) above is rea
 pub named_in-more : (name : List ℕ) (before : List ListedLine) (listed : ListedLine)
     → position_of (named_in name (before ++ listed ∷ []))
     ≡ (if is_named name listed.line then Some listed.position else position_of (named_in name before))
-named_in-more name before listed =
-    ap (λ (lines : List ListedLine). position_of (find (λ each. is_named name each.line) lines)) (back before listed)
-    ∙ chosen_position (is_named name listed.line) listed (find (λ each. is_named name each.line) (reverse before))
+named_in-more name before listed = search (rules, back, chosen_position)
 
 pub named_in-final : (name : List ℕ) (before : List ListedLine) (listed : ListedLine) → is_final_end listed.line ≡ true
     → position_of (named_in name (before ++ listed ∷ [])) ≡ position_of (named_in name before)

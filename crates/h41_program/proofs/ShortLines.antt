@@ -1,6 +1,6 @@
 -- A line of one byte is the line of all bytes that begin with this byte.
-use Rattle.std.proofs.Common.{◌≡◌, ℕ, suc, ◌+◌, ◌-◌, ◌<◌, ◌≤◌, List, [], ◌∷◌, ◌++◌, map, take, drop, Ok, Result, sym, ◌∙◌, ap, subst, arith}
-use Rattle.std.proofs.Common.{inl, inr, min}
+use Rattle.std.proofs.Common.{◌≡◌, ℕ, suc, ◌+◌, ◌-◌, ◌<◌, ◌≤◌, List, [], ◌∷◌, ◌++◌, map, take, Ok, Result, sym, ◌∙◌, ap, subst, arith}
+use Rattle.std.proofs.Common.{inl, inr, min, rules}
 use Rattle.std.specs.List.{range_with_len}
 use Rattle.std.proofs.lemmas.List.{length-take, take-take}
 use Rattle.std.proofs.lemmas.List.FromFn.{take-map-range_with_len}
@@ -31,42 +31,20 @@ one_byte byte line count is same = subst (λ (n : ℕ). take n (byte ∷ []) ≡
 
 pub begins_by : (numbers : NumberBegins) (byte : ℕ) (rest : List ℕ) (line : Line) → IsLine line → byte ∷ [] ≡ spelling line
     → BeginsNoNumber byte → Begins (byte ∷ rest) line 1
-begins_by numbers byte rest line valid same other =
-    record {
-      inside = omega arith;
-      spells = record { valid = valid; same = same };
-      whole = whole_alone numbers line byte rest valid same other;
-    }
+begins_by numbers byte rest line valid same other = search (rules, whole_alone)
 
 pub begins_alone : (numbers : NumberBegins) (byte : ℕ) (rest : List ℕ) (line : Line) (count : ℕ) → BeginsNoNumber byte
     → Begins (byte ∷ []) line count → Begins (byte ∷ rest) line count
-begins_alone numbers byte rest line count other begins =
-    let least = begins_least (byte ∷ []) line count begins in
-    let inside = begins.inside in
-    let is : count ≡ 1 = omega (arith, least, inside) in
-    subst (λ (n : ℕ). Begins (byte ∷ rest) line n) (sym is)
-    (begins_by numbers byte rest line begins.spells.valid (one_byte byte line count is begins.spells.same) other)
-
-same_found : {E : Type 0} (line other : Line) (count size : ℕ) → ◌≡◌ {A = Result (Line × ℕ) E} (Ok (line, count)) (Ok (other, size))
-    → (line ≡ other) × (count ≡ size)
-same_found line other count size is =
-    let pair : ◌≡◌ {A = Line × ℕ} (line, count) (other, size) = cc in
-    (ap (λ (found : Line × ℕ). found.0) pair, ap (λ (found : Line × ℕ). found.1) pair)
+begins_alone numbers byte rest line count other begins = search (rules, begins_least, begins_by, one_byte)
 
 pub answers_alone : {E : Type 0} (one : OneLine) (bytes : List ℕ) (line : Line) (count : ℕ) → Begins bytes line count
     → AnswersLine {E = E} (Ok (line, count)) bytes
-answers_alone one bytes line count begins = λ other size. (
-  λ is. let same = same_found line other count size is in
-      subst (λ (n : ℕ). Begins bytes other n) same.1 (subst (λ (l : Line). Begins bytes l count) same.0 begins),
-  λ found. let same = one bytes line other count size begins found in ap Ok (λ i. (same.0 i, same.1 i)),
-)
+answers_alone one bytes line count begins = search rules
 
 -- The bytes that are examined begin with the first one.
 pub seen_first : (memory : RegisterMap) (at limit : ℕ) → at < limit
     → bytes_seen memory at limit ≡ program_byte memory at ∷ map (program_byte memory) (range_with_len (at + 1) (min 18 (limit - at) - 1))
-seen_first memory at limit before =
-    let some : min 18 (limit - at) ≡ suc (min 18 (limit - at) - 1) = omega (arith, before) in
-    ap (λ n. map (program_byte memory) (range_with_len at n)) some
+seen_first memory at limit before = search rules
 
 answers_same : {E : Type 0} (found : Result (Line × ℕ) E) (bytes other : List ℕ) → bytes ≡ other → AnswersLine found bytes
     → AnswersLine found other
@@ -98,19 +76,7 @@ whole_narrow numbers line byte count more rest valid same other = tt
 -- A line of the first bytes that is no number is the line of all bytes.
 pub begins_narrow : (numbers : NumberBegins) (byte m : ℕ) (more : List ℕ) (line : Line) (count : ℕ) → BeginsNoNumber byte
     → Begins (take m (byte ∷ more)) line count → Begins (byte ∷ more) line count
-begins_narrow numbers byte m more line count other begins =
-    let least = begins_least (take m (byte ∷ more)) line count begins in
-    let inside = begins.inside in
-    let size = length-take m (byte ∷ more) in
-    let most : count ≤ m = omega (arith, inside, size) in
-    let one : count ≡ suc (count - 1) = omega (arith, least) in
-    let same : take count (byte ∷ more) ≡ spelling line = sym (take-take count m (byte ∷ more) most) ∙ begins.spells.same in
-    record {
-      inside = omega (arith, inside, size);
-      spells = record { valid = begins.spells.valid; same = same };
-      whole = whole_narrow numbers line byte (count - 1) more (drop count (byte ∷ more)) begins.spells.valid
-          (subst (λ (n : ℕ). take n (byte ∷ more) ≡ spelling line) one same) other;
-    }
+begins_narrow numbers byte m more line count other begins = search (rules, begins_least, length-take, take-take, whole_narrow)
 
 -- If fewer bytes are examined, they are the first ones.
 seen_fewer : (memory : RegisterMap) (at near limit : ℕ) → near ≤ limit

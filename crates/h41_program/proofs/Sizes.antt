@@ -1,6 +1,6 @@
 -- Bytes begin with a line of the size that their first bytes determine, if there are as many.
 use Rattle.std.proofs.Common.{◌≡◌, ℕ, zero, suc, ◌+◌, ◌-◌, ◌*◌, ◌/◌, ◌%◌, ◌<◌, ◌≤◌, Bool, true, false, ◌&&◌, List, [], ◌∷◌, map, length}
-use Rattle.std.proofs.Common.{take, drop, get_or, refl, sym, ◌∙◌, ap, subst, arith, inl, inr, length-take-le, length-take}
+use Rattle.std.proofs.Common.{take, drop, get_or, refl, sym, ◌∙◌, ap, subst, arith, inl, inr, length-take-le, length-take, rules}
 use Rattle.std.specs.Prelude.{◌==◌}
 use Rattle.std.proofs.lemmas.Bool.{and_parts, cases_lt, cases_eq, eqb-true}
 use Rattle.std.proofs.lemmas.List.{get_or-take, get_or-drop, length-map}
@@ -23,6 +23,7 @@ use Rattle.h41_codes.specs.declared.line.Operand.{Operand}
 use Rattle.h41_codes.specs.declared.line.Operand.TheVariants.{Direct, Indirect}
 use Rattle.h41_codes.proofs.Beginnings.{begins_by, begins_label}
 use Rattle.h41_program.specs.private.Reading.{EndsNothing}
+use Rattle.std.proofs.lemmas.Grind.{common_steps}
 
 -- Bytes begin with a line of this many bytes that ends neither a program nor memory.
 abbrev pub Sized : List ℕ → ℕ → Type 0
@@ -40,10 +41,7 @@ in_front : (bytes : List ℕ) (size : ℕ) → size ≤ length bytes → Spelled
 in_front bytes size inside line = (line.0, record { inside = inside; spells = line.1; whole = line.2 (drop size bytes) }, line.3)
 
 are_bytes : (bytes : List ℕ) (from count size : ℕ) → from + count ≤ size → Bytes bytes size → IsBytes (take count (drop from bytes))
-are_bytes bytes from count size within all index inside =
-    let low : index < count = omega (arith, inside, length-take count (drop from bytes)) in
-    let same = get_or-take count (drop from bytes) index 0 low ∙ get_or-drop from bytes index 0 in
-    subst (λ (byte : ℕ). byte < 256) (sym same) (all (from + index) (omega (arith, low, within)))
+are_bytes bytes from count size within all index inside = search (rules, length-take, get_or-take, get_or-drop)
 
 -- A test of each number below a bound.
 abbrev every : ℕ → (ℕ → Bool) → Bool
@@ -319,10 +317,7 @@ characters_of (suc n) (code ∷ bytes) inside each =
     )
 
 goes_on : (bytes : List ℕ) (n : ℕ) → GoesOn (drop n bytes) → (n < length bytes) × IsIn 0x10 0x1D (get_or bytes n 0)
-goes_on [] zero on = absurd on
-goes_on [] (suc n) on = absurd on
-goes_on (code ∷ bytes) zero on = (omega arith, (on.0, omega (arith, on.1)))
-goes_on (code ∷ bytes) (suc n) on = let more = goes_on bytes n on in (omega (arith, more.0), more.1)
+goes_on bytes n on = grind (arith, common_steps)
 
 pub number_sized : (bytes : List ℕ) (count : ℕ) → 1 ≤ count → count ≤ 16 → count ≤ length bytes
     → ((k : ℕ) → k < count → IsIn 0x10 0x1D (get_or bytes k 0))

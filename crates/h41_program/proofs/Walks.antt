@@ -1,29 +1,22 @@
 -- A walk along the list of lines: the lines read so far, and the remaining ones.
 use Rattle.std.proofs.Common.{◌≡◌, ℕ, Bool, true, false, List, [], ◌∷◌, ◌++◌, refl, sym, ◌∙◌, ap, subst, append_assoc, append-nil, Option}
-use Rattle.std.proofs.Common.{Some, None}
+use Rattle.std.proofs.Common.{Some, None, rules}
 use Rattle.std.specs.Prelude.{MatchBool}
 use Rattle.std.specs.Option.{option_map}
 use Rattle.h41_program.specs.declared.listed_line.ListedLine.{ListedLine}
 use Rattle.h41_program.specs.Edits.{before_end}
 use Rattle.h41_program.specs.Lines.{is_final_end}
 use Rattle.h41_program.specs.ProgramBytes.{program_bytes, final_position}
-use Rattle.h41_program.specs.FirstLines.{IsFirst, NoneFrom, behind}
+use Rattle.h41_program.specs.FirstLines.{IsFirst, NoneFrom}
 use Rattle.h41_program.specs.ProgramLines.{Reads, LinesFrom}
 use Rattle.h41_ram.specs.RegisterMap.{RegisterMap, is_sound}
-use Rattle.std.proofs.lemmas.Bool.{true≢false}
 
 -- The list of lines from a position on, by its first line.
 pub first_rest : (bytes : List ℕ) (final at next : ℕ) (listed : ListedLine) (lines : List ListedLine) → IsFirst bytes final at listed next
     → Reads bytes final at lines
     → (rest : List ListedLine) × (lines ≡ listed ∷ rest) × MatchBool (is_final_end listed.line) (rest ≡ []) (Reads bytes final next rest)
 first_rest bytes final at next listed [] is reads = absurd (reads listed is.first)
-first_rest bytes final at next listed (first ∷ rest) is reads =
-    let same = is.one first reads.0 in (
-      rest,
-      ap (λ (l : ListedLine). l ∷ rest) same,
-      subst (λ (n : ℕ). MatchBool (is_final_end listed.line) (rest ≡ []) (Reads bytes final n rest)) (sym is.behind)
-          (subst (λ (l : ListedLine). MatchBool (is_final_end l.line) (rest ≡ []) (Reads bytes final (behind l) rest)) same reads.1),
-    )
+first_rest bytes final at next listed (first ∷ rest) is reads = search rules
 
 pub no_rest : (bytes : List ℕ) (final at : ℕ) (lines : List ListedLine) → NoneFrom bytes final at → Reads bytes final at lines → lines ≡ []
 no_rest bytes final at [] none reads = refl
@@ -45,10 +38,6 @@ pub record UpTo (bytes : List ℕ) (final from : ℕ) (before : List ListedLine)
   pub joins : (rest : List ListedLine) → Reads bytes final at rest → Reads bytes final from (before ++ rest)
   pub running : (rest : List ListedLine) → before_end (before ++ rest) ≡ option_map (λ lines. before ++ lines) (before_end rest)
 
-same_option : (o : Option (List ListedLine)) → o ≡ option_map (λ lines. [] ++ lines) o
-same_option None = refl
-same_option (Some lines) = refl
-
 one_more : (before : List ListedLine) (listed : ListedLine) (o : Option (List ListedLine))
     → option_map (λ lines. before ++ lines) (option_map (λ lines. listed ∷ lines) o)
     ≡ option_map (λ lines. (before ++ listed ∷ []) ++ lines) o
@@ -56,11 +45,7 @@ one_more before listed None = refl
 one_more before listed (Some lines) = ap (λ (l : List ListedLine). Some l) (sym (append_assoc before (listed ∷ []) lines))
 
 pub up_to_none : (bytes : List ℕ) (final from : ℕ) → UpTo bytes final from [] from
-up_to_none bytes final from = record {
-  split = λ lines reads. (lines, refl, reads);
-  joins = λ rest reads. reads;
-  running = λ rest. same_option (before_end rest);
-}
+up_to_none bytes final from = search rules
 
 before_end-other : (listed : ListedLine) (rest : List ListedLine) → is_final_end listed.line ≡ false
     → before_end (listed ∷ rest) ≡ option_map (λ lines. listed ∷ lines) (before_end rest)
@@ -68,17 +53,11 @@ before_end-other listed rest other = rw other refl
 
 reads_on : (bytes : List ℕ) (final at next : ℕ) (listed : ListedLine) (rest : List ListedLine) → IsFirst bytes final at listed next
     → is_final_end listed.line ≡ false → Reads bytes final next rest → Reads bytes final at (listed ∷ rest)
-reads_on bytes final at next listed rest is other reads = (
-  is.first,
-  subst (λ (t : Bool). MatchBool t (rest ≡ []) (Reads bytes final (behind listed) rest)) (sym other)
-      (subst (λ (n : ℕ). Reads bytes final n rest) is.behind reads),
-)
+reads_on bytes final at next listed rest is other reads = search rules
 
 pub reads_last : (bytes : List ℕ) (final at next : ℕ) (listed : ListedLine) → IsFirst bytes final at listed next
     → is_final_end listed.line ≡ true → Reads bytes final at (listed ∷ [])
-reads_last bytes final at next listed is last =
-    let none : ◌≡◌ {A = List ListedLine} [] [] = refl in
-    (is.first, subst (λ (t : Bool). MatchBool t (◌≡◌ {A = List ListedLine} [] []) (Reads bytes final (behind listed) [])) (sym last) none)
+reads_last bytes final at next listed is last = search rules
 
 pub up_to_more : (bytes : List ℕ) (final from at next : ℕ) (before : List ListedLine) (listed : ListedLine)
     → UpTo bytes final from before at → IsFirst bytes final at listed next → is_final_end listed.line ≡ false
@@ -112,9 +91,7 @@ goes_on bytes final from at next before lines listed upto is reads =
 -- The whole list, at its end.
 pub ends_none : (bytes : List ℕ) (final from at : ℕ) (before lines : List ListedLine) → UpTo bytes final from before at
     → NoneFrom bytes final at → Reads bytes final from lines → lines ≡ before
-ends_none bytes final from at before lines upto none reads =
-    let parts = upto.split lines reads in
-    parts.1 ∙ ap (λ (l : List ListedLine). before ++ l) (no_rest bytes final at parts.0 none parts.2) ∙ append-nil before
+ends_none bytes final from at before lines upto none reads = search (rules, no_rest, append-nil)
 
 pub ends_final : (bytes : List ℕ) (final from at next : ℕ) (before lines : List ListedLine) (listed : ListedLine)
     → UpTo bytes final from before at → IsFirst bytes final at listed next → is_final_end listed.line ≡ true → Reads bytes final from lines
@@ -139,10 +116,7 @@ all_final bytes final from at next before listed upto is last = upto.joins (list
 -- The lines of sound memory.
 pub from_reads : (memory : RegisterMap) (at : ℕ) (lines : List ListedLine) → is_sound memory ≡ true
     → Reads (program_bytes memory) (final_position memory) at lines → LinesFrom memory at lines
-from_reads memory at lines sound reads = record {
-  sound = λ _. reads;
-  lost = λ lost. absurd (true≢false (sym sound ∙ lost));
-}
+from_reads memory at lines sound reads = search rules
 
 -- The lines before .END. There are none if the list ends otherwise.
 pub before_end-none : (bytes : List ℕ) (final from at : ℕ) (before : List ListedLine) → UpTo bytes final from before at
@@ -151,6 +125,4 @@ before_end-none bytes final from at before upto = ap before_end (sym (append-nil
 
 pub before_end-final : (bytes : List ℕ) (final from at : ℕ) (before : List ListedLine) (listed : ListedLine)
     → UpTo bytes final from before at → is_final_end listed.line ≡ true → before_end (before ++ listed ∷ []) ≡ Some before
-before_end-final bytes final from at before listed upto last =
-    let here : before_end (listed ∷ []) ≡ Some [] = rw last refl in
-    upto.running (listed ∷ []) ∙ ap (option_map (λ lines. before ++ lines)) here ∙ ap (λ (l : List ListedLine). Some l) (append-nil before)
+before_end-final bytes final from at before listed upto last = search (rules, append-nil)

@@ -1,13 +1,11 @@
 -- Memory with lines that were written is sound, and the lines are read again.
-use Rattle.std.proofs.Common.{refl, ◌≡◌, ℕ, ◌+◌, ◌-◌, ◌*◌, ◌/◌, ◌≤◌, true, List, ◌++◌, length, get_or, replicate, sym, ◌∙◌, ap, subst}
-use Rattle.std.proofs.Common.{arith, inl, inr, All, Result, Ok, Err, length-append, get_or-append-add}
-use Rattle.std.proofs.lemmas.Bool.{cases_lt}
+use Rattle.std.proofs.Common.{refl, ◌≡◌, ℕ, ◌+◌, ◌-◌, ◌*◌, ◌/◌, ◌≤◌, true, List, ◌++◌, length, get_or, sym, ◌∙◌, ap, subst}
+use Rattle.std.proofs.Common.{arith, All, Result, Ok, length-append, get_or-append-add, rules}
 use Rattle.h41_codes.specs.ByteLaws.{ByteRoundTrip}
 use Rattle.h41_codes.specs.declared.line.Line.{Line}
 use Rattle.h41_ram.specs.RegisterMap.{RegisterMap, main_start, curtain_of, is_sound}
 use Rattle.h41_program.specs.declared.listed_line.ListedLine.{ListedLine}
 use Rattle.h41_program.specs.declared.refusal.ProgramRefusal.{ProgramRefusal}
-use Rattle.h41_program.specs.declared.refusal.ProgramRefusal.TheVariants.{NoRoom}
 use Rattle.h41_program.specs.Packing.{packed_lines, filler, packing, written_end}
 use Rattle.h41_program.specs.ProgramBytes.{program_bytes, final_position}
 use Rattle.h41_program.specs.ProgramLaws.{IsInner, HasLines, PackingFills, PackingHasFewNulls, WrittenIsRead}
@@ -18,13 +16,11 @@ use Rattle.h41_program.proofs.Rewritten.{program_new, final_new, sound_new}
 use Rattle.h41_program.proofs.Rooms.{written-none, written-some}
 use Rattle.h41_program.proofs.RoundTrips.{reads_behind, reads_packing}
 use Rattle.h41_program.proofs.Walks.{from_reads}
+use Rattle.std.proofs.lemmas.Grind.{common_steps}
 
 -- A packing ends in .END.
 final_bytes : (lines : List Line) (k : ℕ) → get_or (packing lines) (length (packing lines) - 3 + k) 0 ≡ get_or written_end k 0
-final_bytes lines k =
-    let body = packed_lines lines ++ replicate (filler (length (packed_lines lines))) 0 in
-    let size : length (packing lines) - 3 ≡ length body = omega (arith, length-append body written_end) in
-    ap (λ n. get_or (packing lines) (n + k) 0) size ∙ get_or-append-add body written_end k 0
+final_bytes lines k = grind (arith, common_steps, length-append, get_or-append-add)
 
 -- A packing fills whole registers.
 pub registers_filled : (lines : List Line) → length (packing lines) ≡ 7 * (length (packing lines) / 7)
@@ -39,19 +35,13 @@ fills lines = (length (packing lines) / 7, registers_filled lines)
 pub few_nulls : PackingHasFewNulls
 few_nulls lines = (filler (length (packed_lines lines)), omega arith, refl)
 
-refused_is_not_done : (new : RegisterMap) → ◌≡◌ {A = Result RegisterMap ProgramRefusal} (Err NoRoom) (Ok new) → ⊥
-refused_is_not_done new same = cc
-
 same_memory : (one other : RegisterMap) → ◌≡◌ {A = Result RegisterMap ProgramRefusal} (Ok one) (Ok other) → one ≡ other
 same_memory one other same = cc
 
 -- There was room for lines that were written.
 pub has_room : (memory new : RegisterMap) (lines : List Line) → with_program_lines memory lines ≡ Ok new
     → main_start + length (packing lines) / 7 ≤ curtain_of memory
-has_room memory new lines done = elim (cases_lt (curtain_of memory) (main_start + length (packing lines) / 7)) [
-  | inl above ↦ absurd (refused_is_not_done new (sym (written-none memory lines above) ∙ done))
-  | inr inside ↦ inside
-]
+has_room memory new lines done = search (rules, written-none)
 
 pub is_rewritten : (memory new : RegisterMap) (lines : List Line) → with_program_lines memory lines ≡ Ok new
     → with_program_bytes memory (packing lines) ≡ new
@@ -85,9 +75,7 @@ module _ (memory new : RegisterMap) (lines : List Line) (sound : is_sound memory
 
     pub written_reads : (at : ℕ) (listed : List ListedLine) → Reads (packing lines) (length (packing lines) - 3) at listed
         → Reads (program_bytes new) (final_position new) at listed
-    written_reads at listed reads =
-        subst (λ (n : ℕ). Reads (program_bytes new) n at listed) (sym written_final)
-        (subst (λ (bytes : List ℕ). Reads bytes (length (packing lines) - 3) at listed) (sym written_bytes) reads)
+    written_reads at listed reads = search (rules, written_final, written_bytes)
 
 -- Lines after others are read from the byte after these on.
 pub written_behind : ByteRoundTrip → (memory new : RegisterMap) (lines rest : List Line) → is_sound memory ≡ true → All IsInner rest

@@ -1,14 +1,11 @@
-use Rattle.std.proofs.Common.{◌≡◌, ℕ, Bool, true, false, List, Ok, refl, sym, ap, ◌∙◌, subst}
+use Rattle.std.proofs.Common.{◌≡◌, ℕ, Bool, true, false, List, Ok, refl, ap, ◌∙◌, subst}
 use Rattle.std.specs.Prelude.{ℤ, pos, ◌-ℤ◌, unsigned_abs}
 use Rattle.h41_codes.specs.declared.functions.Function.TheVariants as functions
 use Rattle.h41_decimal.specs.Holding.{Number, holding_of}
 use Rattle.h41_decimal.specs.Laws.{DecimalIsItsNearest}
 use Rattle.h41_decimal.specs.NearestDecimal.{Nearest}
 use Rattle.h41_decimal.specs.Units.{size, units}
-use Rattle.h41_decimal.specs.declared.sign.Sign.TheVariants.{Plus}
 use Rattle.h41_decimal.specs.declared.ten.Ten.{Ten}
-use Rattle.h41_decimal.specs.declared.ten.Ten.TheVariants.{Zero, Nonzero}
-use Rattle.h41_decimal.proofs.Tens.{unsigned_abs-signed}
 use Rattle.h41_laws_words.specs.DecimalAnswers.{DecimalHasOneRegister}
 use Rattle.h41_pages.specs.PageMap.{PageMap}
 use Rattle.h41_positions.specs.FocalState.{Machine}
@@ -28,6 +25,7 @@ use Rattle.h41_reasoning_lines.proofs.Listed.{AreListed, also, in_turn}
 use Rattle.h41_reasoning_lines.proofs.Rounds.{by_last, line_then}
 use Rattle.h41_reasoning_lines.proofs.Stacks.{same_program}
 use Rattle.h41_reasoning_lines.proofs.Stepping.{before_line, by_state, of_one, of_two, returned}
+use Rattle.h41_reasoning_lines.proofs.SignedDecimals.{unsigned}
 use Rattle.h41_proved_lines.specs.AbsoluteDifference.{AbsoluteDifferenceReturns, HasAbsoluteDifference, absolute_difference_lines}
 
 -- The register of a decimal.
@@ -35,11 +33,6 @@ pub register_of : DecimalHasOneRegister → (number : Ten) → (register : List 
 register_of registers number =
     let found = registers number in
     (found.answer, record { valid = found.right.valid; holds = found.right.holds })
-
--- The absolute value of a decimal is a decimal.
-absolute : (number : Ten) → (other : Ten) × (units other ≡ pos (unsigned_abs (units number)))
-absolute Zero = (Zero, refl)
-absolute (Nonzero sign x) = (Nonzero Plus x, ap pos (sym (unsigned_abs-signed sign (size x))))
 
 module _ (itself : DecimalIsItsNearest) (registers : DecimalHasOneRegister) (lists : OneList) (pages : PageMap) (stack : Stack)
     (memory : RegisterMap) (at : ℕ) (zero : Bool) (returns : List Position) (lift : Bool) (y x : ℤ) (difference : Ten)
@@ -55,9 +48,9 @@ module _ (itself : DecimalIsItsNearest) (registers : DecimalHasOneRegister) (lis
   abbrev absolute_stack : List ℕ → List ℕ → Stack
   absolute_stack result size = record (subtracted_stack result) { x = size; last = result }
 
-  size_nearest : Nearest (pos (unsigned_abs (units difference))) 1 (Ok (absolute difference).0)
+  size_nearest : Nearest (pos (unsigned_abs (units difference))) 1 (Ok (unsigned difference).0)
   size_nearest =
-      subst (λ (number : ℤ). Nearest number 1 (Ok (absolute difference).0)) (absolute difference).1 (itself (absolute difference).0)
+      subst (λ (number : ℤ). Nearest number 1 (Ok (unsigned difference).0)) (unsigned difference).1 (itself (unsigned difference).0)
 
   run : (listed : List ListedLine) → AreListed (with_stack stack memory) at listed absolute_difference_lines
       → Leaves pages 3 start (HasAbsoluteDifference start difference)
@@ -66,7 +59,7 @@ module _ (itself : DecimalIsItsNearest) (registers : DecimalHasOneRegister) (lis
       let two = are.1.0 in
       let three = are.1.1.0 in
       let first = register_of registers difference in
-      let second = register_of registers (absolute difference).0 in
+      let second = register_of registers (unsigned difference).0 in
       let after_first = subtracted_stack first.0 in
       let after_second = absolute_stack first.0 second.0 in
       let back =
@@ -81,13 +74,13 @@ module _ (itself : DecimalIsItsNearest) (registers : DecimalHasOneRegister) (lis
       second.0 refl
       (also (with_stack stack memory) (with_stack after_first memory) one.next _ two.next (same_program stack after_first memory sound)
       two.stands)
-      (made_absolute after_first memory (units difference) first.1.holds (absolute difference).0 second.0 second.1 size_nearest))
+      (made_absolute after_first memory (units difference) first.1.holds (unsigned difference).0 second.0 second.1 size_nearest))
       (by_last pages _ back.left _ back.step
       record {
         returned = back.returned;
         x = second.0;
         last = first.0;
-        is_absolute = second.1.holds ∙ ap Number (absolute difference).1;
+        is_absolute = second.1.holds ∙ ap Number (unsigned difference).1;
         is_difference = first.1.holds;
         only = back.memory;
       }))

@@ -37,15 +37,15 @@ use Rattle.h41_reasoning_lines.proofs.Computing.{added, comparable, divided, squ
 use Rattle.h41_reasoning_lines.proofs.DataRegisters.{data_is, same_data, same_data_of, same_program_written}
 use Rattle.h41_reasoning_lines.proofs.Listed.{IsLineAt, IsListed, also}
 use Rattle.h41_reasoning_lines.proofs.Programs.{IsLast, all_in_turn, leads_on}
-use Rattle.h41_reasoning_lines.proofs.Registers.{data_found, number_in_x, recalled_short, recalled_short_over, stored_short}
+use Rattle.h41_reasoning_lines.proofs.Registers.{coming, data_found, number_in_x, recalled_short, stored_short}
 use Rattle.h41_reasoning_lines.proofs.Rounds.{by_last, line_then, more_lines_suffice}
 use Rattle.h41_reasoning_lines.proofs.Stacks.{same_program, still}
 use Rattle.h41_reasoning_lines.proofs.Stepping.{after_line, before_line, by_state, ended, global_label, go_to, label, last_recalled, of_one}
 use Rattle.h41_reasoning_lines.proofs.Stepping.{of_two, returned, test_false, test_true}
 use Rattle.h41_reasoning_lines.proofs.Wholes.{whole_ten}
+use Rattle.h41_reasoning_lines.proofs.WholeSteps.{typed_whole}
 use Rattle.h41_proved_lines.specs.Bisection.{Contains, HalvesBracket, HasHalved, IsBracket, IsMiddle, IsSquare, half_body, half_lines}
 use Rattle.h41_proved_lines.proofs.AbsoluteDifference.{register_of}
-use Rattle.h41_reasoning_lines.proofs.Scales.{scaled}
 
 by_below : {P : Type 0} (a b : ℤ) → (int_lt a b ≡ true → a <ℤ b → P) → (int_lt a b ≡ false → b ≤ℤ a → P) → P
 by_below {P} a b less most = by (int_lt a b) refl
@@ -59,9 +59,7 @@ two : (ten : Ten) × (units ten ≡ pos (2 * one))
 two = whole_ten 2 (omega arith)
 
 two_nearest : DecimalIsItsNearest → Nearest (pos (2 * one * 10 ^ 99)) (10 ^ 99) (Ok two.0)
-two_nearest itself =
-    scaled (2 * one) (10 ^ 99) two.0 (omega arith) (omega arith)
-    (subst (λ (z : ℤ). Nearest z 1 (Ok two.0)) two.1 (itself two.0))
+two_nearest itself = typed_whole itself 2 two.0 (omega arith) two.1
 
 module _ (itself : DecimalIsItsNearest) (registers : DecimalHasOneRegister) (lists : OneList)
     (pages : PageMap) (stack : Stack) (memory : RegisterMap) (at : ℕ) (returns : List Position)
@@ -109,53 +107,25 @@ module _ (itself : DecimalIsItsNearest) (registers : DecimalHasOneRegister) (lis
       abbrev lifted : Stack → List ℕ → Stack
       lifted st register = record { t = st.z; z = st.y; y = st.x; x = register; last = st.last }
 
-      recalled_as : (i : ℕ) → i ≤ 2 → (register : List ℕ) → data_of first_memory i ≡ Some register → (st : Stack) (from to : ℕ)
-          → IsLineAt first_memory from (lines.Register RecallRegister i) to
-          → Continues pages (after_line (with_stack st memory) from returns true)
-          (after_line (with_stack (lifted st register) memory) to returns true)
-      recalled_as i small register is st from to line =
+      recalled_as : (on : Bool) (i : ℕ) → i ≤ 2 → (register : List ℕ) → data_of first_memory i ≡ Some register → (st : Stack)
+          (from to : ℕ) → IsLineAt first_memory from (lines.Register RecallRegister i) to
+          → Continues pages (after_line (with_stack st memory) from returns on)
+          (after_line (with_stack (coming on st register) memory) to returns true)
+      recalled_as on i small register is st from to line =
           subst
-          (λ (r : List ℕ). Continues pages (after_line (with_stack st memory) from returns true)
-          (after_line (with_stack (lifted st r) memory) to returns true))
+          (λ (r : List ℕ). Continues pages (after_line (with_stack st memory) from returns on)
+          (after_line (with_stack (coming on st r) memory) to returns true))
           (brought i small register is st)
           (recalled_short pages st memory from to false returns (data_address first_memory i) i
-          (data_found (with_stack st memory) i (below i small)) (still stack st memory sound from to _ line))
+          (data_found (with_stack st memory) i (below i small)) (still stack st memory sound from to _ line) on)
 
       -- The first RCL, with stack lift on or off.
-      record Begun : Type 0 where
-        st : Stack
-        in_x : holding_of st.x ≡ Number low
-        step : Continues pages (after_line first_memory l0.next returns lift) (after_line (with_stack st memory) l1.next returns true)
+      abbrev low_stack : Stack
+      low_stack = coming lift stack bracket.in_1.0
 
-      begun_by : (on : Bool) → on ≡ lift → Begun
-      begun_by true is = record {
-        st = lifted stack bracket.in_1.0;
-        in_x = bracket.in_1.2;
-        step =
-            subst
-            (λ (l : Bool). Continues pages (after_line first_memory l0.next returns l)
-            (after_line (with_stack (lifted stack bracket.in_1.0) memory) l1.next returns true))
-            is
-            (recalled_as 1 (omega arith) bracket.in_1.0 bracket.in_1.1 stack l0.next l1.next l1.stands);
-      }
-      begun_by false is = record {
-        st = record stack { x = bracket.in_1.0 };
-        in_x = bracket.in_1.2;
-        step =
-            subst
-            (λ (l : Bool). Continues pages (after_line first_memory l0.next returns l)
-            (after_line (with_stack (record stack { x = bracket.in_1.0 }) memory) l1.next returns true))
-            is
-            (subst
-            (λ (r : List ℕ). Continues pages (after_line first_memory l0.next returns false)
-            (after_line (with_stack (record stack { x = r }) memory) l1.next returns true))
-            (brought 1 (omega arith) bracket.in_1.0 bracket.in_1.1 stack)
-            (recalled_short_over pages stack memory l0.next l1.next false returns (data_address first_memory 1) 1
-            (data_found first_memory 1 (below 1 (omega arith))) l1.stands));
-      }
-
-      begun : Begun
-      begun = begun_by lift refl
+      low_in_x : (on : Bool) → holding_of (coming on stack bracket.in_1.0).x ≡ Number low
+      low_in_x true = bracket.in_1.2
+      low_in_x false = bracket.in_1.2
 
       -- The registers that the lines compute.
       sum_register : (register : List ℕ) × IsRegisterOf (units half.0) register
@@ -172,7 +142,7 @@ module _ (itself : DecimalIsItsNearest) (registers : DecimalHasOneRegister) (lis
 
       -- The stack after each line.
       abbrev both_stack : Stack
-      both_stack = lifted begun.st bracket.in_2.0
+      both_stack = lifted low_stack bracket.in_2.0
 
       abbrev sum_stack : Stack
       sum_stack = record { t = both_stack.t; z = both_stack.t; y = both_stack.z; x = sum_register.0; last = both_stack.x }
@@ -200,14 +170,15 @@ module _ (itself : DecimalIsItsNearest) (registers : DecimalHasOneRegister) (lis
       up_to_test most rest =
           line_then pages _ _ _ After
           (global_label pages first_memory at l0.next zero_line returns lift link key (codes "HALF") l0.stands)
-          (line_then pages _ _ _ After begun.step
           (line_then pages _ _ _ After
-          (recalled_as 2 (omega arith) bracket.in_2.0 bracket.in_2.1 begun.st l1.next l2.next l2.stands)
+          (recalled_as lift 1 (omega arith) bracket.in_1.0 bracket.in_1.1 stack l0.next l1.next l1.stands)
+          (line_then pages _ _ _ After
+          (recalled_as true 2 (omega arith) bracket.in_2.0 bracket.in_2.1 low_stack l1.next l2.next l2.stands)
           (line_then pages _ _ _ After
           (of_two pages both_stack memory l2.next l3.next false returns true functions.Add (OfTwo twos.Sum places.Y places.X)
           sum_register.0 refl
           (still stack both_stack memory sound l2.next l3.next _ l3.stands)
-          (added both_stack memory low high begun.in_x bracket.in_2.2 half.0 sum_register.0 sum_register.1 half.1))
+          (added both_stack memory low high (low_in_x lift) bracket.in_2.2 half.0 sum_register.0 sum_register.1 half.1))
           (line_then pages _ _ _ After
           (number_in_x pages sum_stack memory l3.next l4.next false returns 0 (characters.Two ∷ []) two.0 two_register.0
           record {
@@ -215,7 +186,7 @@ module _ (itself : DecimalIsItsNearest) (registers : DecimalHasOneRegister) (lis
             biased = refl;
             typed = record { answer = Ok two.0; nearest = two_nearest itself; value = refl };
           }
-          two_register.1 (still stack sum_stack memory sound l3.next l4.next _ l4.stands))
+          two_register.1 (still stack sum_stack memory sound l3.next l4.next _ l4.stands) true)
           (line_then pages _ _ _ After
           (of_two pages two_stack memory l4.next l5.next false returns true functions.Divide (OfTwo twos.Quotient places.Y places.X)
           middle_register.0 refl
@@ -228,7 +199,7 @@ module _ (itself : DecimalIsItsNearest) (registers : DecimalHasOneRegister) (lis
           (still stack middle_stack memory sound l5.next l6.next _ l6.stands)
           (squared middle_stack memory (units middle) middle_register.1.holds square square_register.0 square_register.1 is_square))
           (line_then pages _ _ _ After
-          (recalled_as 0 (omega arith) bracket.in_0.0 bracket.in_0.1 square_stack l6.next l7.next l7.stands)
+          (recalled_as true 0 (omega arith) bracket.in_0.0 bracket.in_0.1 square_stack l6.next l7.next l7.stands)
           rest)))))))
 
       -- What X<Y? compares: the number with the square of the middle.

@@ -1,7 +1,6 @@
 use Rattle.std.proofs.Common.{◌≡◌, ◌≢◌, ℕ, zero, suc, ◌+◌, ◌*◌, ◌^◌, ◌<◌, ◌≤◌, Bool, true, false, List, [], ◌∷◌, Some, Ok, length}
 use Rattle.std.proofs.Common.{inl, inr, refl, sym, ap, ◌∙◌, subst, arith}
 use Rattle.std.specs.Prelude.{codes, ℤ, pos, int_lt, unsigned_abs}
-use Rattle.std.proofs.lemmas.Grind.{common_steps}
 use Rattle.h41_codes.specs.declared.functions.NameFunction.TheVariants.{ExecuteName}
 use Rattle.h41_codes.specs.declared.functions.ParameterFunction.TheVariants.{DecrementSkip}
 use Rattle.h41_codes.specs.declared.line.Line.{Line}
@@ -33,6 +32,7 @@ use Rattle.h41_reasoning_lines.specs.LineRuns.{Continues, Leaves, WithinSteps}
 use Rattle.h41_reasoning_lines.specs.ProgramLines.{FindsName, IsProgram, ends_program}
 use Rattle.h41_reasoning_lines.specs.Stacks.{with_stack}
 use Rattle.h41_reasoning_lines.specs.Subroutines.{IsBack}
+use Rattle.h41_reasoning_lines.proofs.Calls.{rebuilt}
 use Rattle.h41_reasoning_lines.proofs.DataRegisters.{data_is, data_with_stack, same_size, sound_with_stack}
 use Rattle.h41_reasoning_lines.proofs.Listed.{IsLineAt, IsListed, also}
 use Rattle.h41_reasoning_lines.proofs.Programs.{IsLast, all_in_turn, leads_back, program_also}
@@ -40,7 +40,7 @@ use Rattle.h41_reasoning_lines.proofs.Registers.{counted, counts_on, counts_out,
 use Rattle.h41_reasoning_lines.proofs.Rounds.{by_last, leaves_as, leaves_in_turn, line_then}
 use Rattle.h41_reasoning_lines.proofs.Stepping.{after_line, before_line, ended, executes_named, global_label, go_to, label, own_place}
 use Rattle.h41_reasoning_lines.proofs.Subroutines.{call_returns}
-use Rattle.h41_reasoning_lines.proofs.Wholes.{whole, whole_ten}
+use Rattle.h41_reasoning_lines.proofs.Wholes.{lt_holds, whole, whole_ten}
 use Rattle.h41_proved_lines.specs.Bisection.{Contains, HasHalved, IsBracket, IsMiddle, IsSquare, half_lines}
 use Rattle.h41_proved_lines.specs.BisectionLoop.{BisectionReturns, Halvings, HasBisected, KeepsOthers, bisect_body, greatest_bound}
 use Rattle.h41_proved_lines.proofs.AbsoluteDifference.{register_of}
@@ -63,19 +63,6 @@ same_bracket memory other number low high same is = record {
   at_most = is.at_most;
   above = is.above;
 }
-
--- A state after a subroutine, by its parts.
-rebuilt : (s u : Machine) (next : ℕ) (Property : Left → Type 0) → IsBack s (Memory next) Property u
-    → u ≡ before_line u.memory next false s.focal.returns u.focal.lift
-rebuilt s u next Property back =
-    ap (λ (p : Position). let with : Machine = record u { focal = record u.focal { position = p } } in with) back.position
-    ∙ ap
-    (λ (z : Bool). let with : Machine = record u { focal = record u.focal { position = Memory next; at_line_00 = z } } in with)
-    back.no_line_00
-    ∙ ap (λ (r : List Position). before_line u.memory next false r u.focal.lift) back.returns
-
-counts_on_from : (left : ℕ) → 0 < left → int_lt (pos 0) (pos left) ≡ true
-counts_on_from left some = grind (arith, common_steps)
 
 module _ (itself : DecimalIsItsNearest) (registers : DecimalHasOneRegister) (lists : OneList) (one_reading : ReadIsDetermined)
     (nearest : FractionHasOneNearest) (pages : PageMap) (count at : ℕ) (returns : List Position) (few : length returns ≤ 5)
@@ -170,7 +157,7 @@ module _ (itself : DecimalIsItsNearest) (registers : DecimalHasOneRegister) (lis
           (counts_on pages memory l2.next l3.next false returns lift counter_address next_register.0 DecrementSkip (Direct 3) Down refl refl
           refl
           (direct memory 3 (omega arith) (enough_there memory here.keeps)) (there memory here.keeps l2.next l3.next _ l3.stands) works
-          (tells_loop memory counter_address Down (whole (suc left)) holds ∙ tested_down_whole left ∙ counts_on_from left more))
+          (tells_loop memory counter_address Down (whole (suc left)) holds ∙ tested_down_whole left ∙ lt_holds 0 left more))
           (line_then pages _ _ _ After
           (go_to pages counted_memory l3.next l4.next false returns true 1 distance l0.next
           (there counted_memory counted_keeps l3.next l4.next _ l4.stands)

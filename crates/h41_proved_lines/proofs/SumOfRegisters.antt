@@ -39,7 +39,7 @@ use Rattle.h41_reasoning_lines.proofs.Computing.{added}
 use Rattle.h41_reasoning_lines.proofs.DataRegisters.{same_data}
 use Rattle.h41_reasoning_lines.proofs.Listed.{IsLineAt, IsListed}
 use Rattle.h41_reasoning_lines.proofs.Programs.{IsLast, all_in_turn, leads_back}
-use Rattle.h41_reasoning_lines.proofs.Registers.{counted, counts_on, counts_out, indirect, number_over, recalled, tells_loop}
+use Rattle.h41_reasoning_lines.proofs.Registers.{counted, counts_on, counts_out, indirect, number_in_x, recalled, tells_loop}
 use Rattle.h41_reasoning_lines.proofs.Rounds.{by_last, line_then}
 use Rattle.h41_reasoning_lines.proofs.Stacks.{same_program, still}
 use Rattle.h41_reasoning_lines.proofs.Stepping.{after_line, before_line, by_state, ended, entered, global_label, go_to, label, of_two}
@@ -123,7 +123,7 @@ module _ (itself : DecimalIsItsNearest) (registers : DecimalHasOneRegister) (lis
             (after_line (with_stack (record recalled_stack { x = register }) memory) l4.next returns true))
             (same_data stack st memory i sound)
             (recalled pages st memory l3.next l4.next false returns (data_address first_memory i) (Indirect y_parameter) refl means
-            (still stack st memory sound l3.next l4.next _ l4.stands))
+            (still stack st memory sound l3.next l4.next _ l4.stands) true)
 
         summed : Continues pages (after_line (with_stack recalled_stack memory) l4.next returns true)
             (after_line (with_stack added_stack memory) l5.next returns true)
@@ -244,14 +244,14 @@ module _ (itself : DecimalIsItsNearest) (registers : DecimalHasOneRegister) (lis
           (line_then pages _ _ _ After
           (entered pages stack memory l0.next l1.next false returns lift l1.stands)
           (line_then pages _ _ _ After
-          (number_over pages entered_stack memory l1.next l2.next false returns 0 (characters.Zero ∷ []) Zero zero_register.0
+          (number_in_x pages entered_stack memory l1.next l2.next false returns 0 (characters.Zero ∷ []) Zero zero_register.0
           record {
             exponent = record { biased = 99; in_range = omega arith };
             biased = refl;
             typed = record { answer = Ok Zero; nearest = refl; value = refl };
           }
           zero_register.1
-          (still stack entered_stack memory sound l1.next l2.next _ l2.stands))
+          (still stack entered_stack memory sound l1.next l2.next _ l2.stands) false)
           (from_round n 0 Zero zero_stack (omega arith) (begun in_x) adds))))
 
 few_registers : (count : ℕ) (memory : RegisterMap) (n : ℕ) → IsMemory count memory → is_sound memory ≡ true → n < size_of memory

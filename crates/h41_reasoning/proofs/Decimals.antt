@@ -1,13 +1,12 @@
 -- Decimal digits: parts of registers, sums and differences in base 10.
 use Rattle.std.proofs.Common.{◌≡◌, ℕ, zero, suc, ◌+◌, ◌-◌, ◌^◌, ◌<◌, ◌≤◌, Bool, List, slice_index, inl, inr, sym, ◌∙◌, arith}
-use Rattle.std.proofs.Math.Nat.{pow-succ', pow-zero, mul-le-mul_left}
 use Rattle.std.proofs.lemmas.Bool.{cases_lt}
 use Rattle.h41_arith.specs.DigitRule.{DifferenceDigit, DifferenceInto, HasCarries, HasResult, SumDigit, SumInto, zeros}
 use Rattle.h41_arith.specs.DigitRuleLaws.{number_of}
 use Rattle.h41_fields.specs.Field.{from_to}
 use Rattle.h41_reasoning.proofs.Changes.{carry_at_most, one_digit}
 use Rattle.h41_reasoning.proofs.Numbers.{zero_digit}
-use Rattle.h41_reasoning.proofs.Spans.{number_from, number_more}
+use Rattle.h41_reasoning.proofs.Spans.{below_power}
 use Rattle.h41_reasoning.specs.Decimals.{IsDecimal}
 
 pub zeros_decimal : (lo hi : ℕ) → IsDecimal zeros lo hi
@@ -38,21 +37,10 @@ pub digit_in_both : (x : List ℕ) (place : ℕ) → number_of 10 x place place 
 digit_in_both x place = one_digit 10 x place ∙ sym (one_digit 16 x place)
 
 -- A number of decimal digits is below the power of ten.
-pub decimal_from : (x : List ℕ) (lo count : ℕ) → ((place : ℕ) → lo ≤ place → place < lo + count → slice_index x place ≤ 9)
-    → number_from 10 x lo count < 10 ^ count
-decimal_from x lo zero digits = omega (arith, pow-zero 10)
-decimal_from x lo (suc count) digits =
-    omega (
-      arith,
-      number_more 10 x lo count,
-      pow-succ' 10 count,
-      decimal_from x lo count (λ place from less. digits place from (omega (arith, less))),
-      mul-le-mul_left (10 ^ count) (digits (lo + count) (omega arith) (omega arith)),
-    )
-
 pub below_ten : (lo hi : ℕ) (x : List ℕ) → IsDecimal x lo hi → number_of 10 x lo hi < 10 ^ (hi + 1 - lo)
 unfolding from_to
-below_ten lo hi x is = decimal_from x lo (hi + 1 - lo) (λ place from less. is place from (omega (arith, from, less)))
+below_ten lo hi x is =
+    below_power 10 x lo (hi + 1 - lo) (λ place from less. omega (arith, is place from (omega (arith, from, less))))
 
 -- One digit of a sum or a difference.
 sum_digit : (x y carry z other : ℕ) → SumDigit 10 x y carry z other → x ≤ 9 → y ≤ 9 → carry ≤ 1 → (z ≤ 9) × (other ≤ 1)

@@ -7,8 +7,7 @@ use Rattle.std.specs.Prelude.{IsTrue}
 use Rattle.h41_arith.specs.DigitRule.{is_different}
 use Rattle.h41_arith.specs.DigitRuleLaws.{DifferentAtAPlace, IsNumberIn, number_of}
 use Rattle.h41_fields.specs.Field.{from_to}
-use Rattle.h41_reasoning.proofs.Decimals.{decimal_from}
-use Rattle.h41_reasoning.proofs.Spans.{below_from, number_from, number_more}
+use Rattle.h41_reasoning.proofs.Spans.{below_power, number_from, number_more}
 
 -- A digit and what is below it are determined by their number.
 same_digit : (a b limit m n : ℕ) → a + m * limit ≡ b + n * limit → a < limit → b < limit → (m ≡ n) × (a ≡ b)
@@ -45,11 +44,10 @@ same_digits base lo (suc count) x y below_x below_y same index less =
 limited : (base lo hi : ℕ) (x : List ℕ) → lo ≤ hi → hi < 14 → IsNumberIn base x lo hi → (count : ℕ) → count ≤ hi + 1 - lo
     → number_from base x lo count < base ^ count
 limited base lo hi x ordered inside (inl (is, register)) count most =
-    subst (λ (b : ℕ). number_from b x lo count < b ^ count) (sym is)
-    (below_from x lo count (λ place less. register.each place 0 (omega (arith, register.size, less, most, ordered, inside))))
+    below_power base x lo count (λ place from less.
+    omega (arith, is, register.each place 0 (omega (arith, register.size, less, most, ordered, inside))))
 limited base lo hi x ordered inside (inr (is, digits)) count most =
-    subst (λ (b : ℕ). number_from b x lo count < b ^ count) (sym is)
-    (decimal_from x lo count (λ place from less. digits place from (omega (arith, less, most, ordered))))
+    below_power base x lo count (λ place from less. omega (arith, is, digits place from (omega (arith, less, most, ordered))))
 
 pub different_numbers : DifferentAtAPlace → (base lo hi : ℕ) (x y : List ℕ) → lo ≤ hi → hi < 14 → IsNumberIn base x lo hi
     → IsNumberIn base y lo hi → is_different x y lo hi ≡ true

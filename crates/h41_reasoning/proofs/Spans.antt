@@ -90,24 +90,21 @@ parts base lo mid hi x first second =
     ap (number_from base x lo) whole ∙ parts_from base lo (mid + 1 - lo) (hi + 1 - (mid + 1)) x
     ∙ ap (λ place. number_from base x lo (mid + 1 - lo) + base ^ (mid + 1 - lo) * number_from base x place (hi + 1 - (mid + 1))) at
 
--- A number in base 16 is below the power of its digits.
-pub below_from : (x : List ℕ) (lo count : ℕ) → ((place : ℕ) → place < lo + count → slice_index x place < 16)
-    → number_from 16 x lo count < 16 ^ count
-below_from x lo zero digits = omega (arith, pow-zero 16)
-below_from x lo (suc count) digits =
-    let digit = digits (lo + count) (omega arith) in
+-- A number is below the power of its digits, if they are below the base.
+pub below_power : (base : ℕ) (x : List ℕ) (lo count : ℕ)
+    → ((place : ℕ) → lo ≤ place → place < lo + count → slice_index x place < base)
+    → number_from base x lo count < base ^ count
+below_power base x lo zero digits = omega (arith, pow-zero base)
+below_power base x lo (suc count) digits =
     omega (
       arith,
-      number_more 16 x lo count,
-      pow-succ' 16 count,
-      below_from x lo count (λ place less. digits place (omega (arith, less))),
-      mul-le-mul_left (16 ^ count) (at_most (slice_index x (lo + count)) digit),
+      number_more base x lo count,
+      pow-succ' base count,
+      below_power base x lo count (λ place from less. digits place from (omega (arith, less))),
+      mul-le-mul_left (base ^ count) (digits (lo + count) (omega arith) (omega arith)),
     )
-  where
-    at_most : (n : ℕ) → n < 16 → n ≤ 15
-    at_most n less = omega (arith, less)
 
 pub below : (lo hi : ℕ) (x : List ℕ) → IsRegister 14 x → lo ≤ hi → hi < 14 → number_of 16 x lo hi < 16 ^ (hi + 1 - lo)
 unfolding from_to
 below lo hi x is ordered inside =
-    below_from x lo (hi + 1 - lo) (λ place less. is.each place 0 (omega (arith, is.size, less, ordered, inside)))
+    below_power 16 x lo (hi + 1 - lo) (λ place from less. is.each place 0 (omega (arith, is.size, less, ordered, inside)))

@@ -28,7 +28,7 @@ use Rattle.h41_reasoning_lines.specs.ProgramStates.{HasBecome, data_in, with_con
 use Rattle.h41_reasoning_lines.specs.Stacks.{Stack}
 use Rattle.h41_reasoning_lines.specs.Subroutines.{IsBack}
 use Rattle.h41_reasoning_lines.proofs.Listed.{IsListed, also, lines_from, IsLineAt}
-use Rattle.h41_reasoning_lines.proofs.Programs.{program_also}
+use Rattle.h41_reasoning_lines.proofs.Programs.{lines_also, program_also}
 use Rattle.h41_reasoning_lines.proofs.ProgramStates.{address_stays, curtain_stays, program_stays, size_stays}
 use Rattle.h41_reasoning_lines.proofs.Rounds.{leaves_as, leaves_in_turn, line_then}
 use Rattle.h41_reasoning_lines.proofs.Stepping.{after_line, before_line, executes, executes_named, goes_named}
@@ -47,12 +47,7 @@ one_return_more returns next most few small =
 -- A stack is known by its registers.
 pub same_stack : (stack : Stack) (t z y x last : List ℕ) → stack.t ≡ t → stack.z ≡ z → stack.y ≡ y → stack.x ≡ x → stack.last ≡ last
     → stack ≡ record { t = t; z = z; y = y; x = x; last = last }
-same_stack stack t z y x last t_is z_is y_is x_is last_is =
-    ap (λ (r : List ℕ). let with : Stack = record { t = r; z = stack.z; y = stack.y; x = stack.x; last = stack.last } in with) t_is
-    ∙ ap (λ (r : List ℕ). let with : Stack = record { t = t; z = r; y = stack.y; x = stack.x; last = stack.last } in with) z_is
-    ∙ ap (λ (r : List ℕ). let with : Stack = record { t = t; z = z; y = r; x = stack.x; last = stack.last } in with) y_is
-    ∙ ap (λ (r : List ℕ). let with : Stack = record { t = t; z = z; y = y; x = r; last = stack.last } in with) x_is
-    ∙ ap (λ (r : List ℕ). let with : Stack = record { t = t; z = z; y = y; x = x; last = r } in with) last_is
+same_stack stack t z y x last t_is z_is y_is x_is last_is = rw (← t_is, ← z_is, ← y_is, ← x_is, ← last_is) refl
 
 -- Data registers differ at most in one number, of which the content is known.
 pub kept_but : (new contents : ℕ → List ℕ) (n : ℕ) (register : List ℕ) (k : ℕ) → new n ≡ register
@@ -67,12 +62,7 @@ kept_but new contents n register k is others = by (k == n) refl
 -- A state after a subroutine, by its parts.
 pub rebuilt : (s u : Machine) (next : ℕ) (Property : Left → Type 0) → IsBack s (Memory next) Property u
     → u ≡ before_line u.memory next false s.focal.returns u.focal.lift
-rebuilt s u next Property back =
-    ap (λ (p : Position). let with : Machine = record u { focal = record u.focal { position = p } } in with) back.position
-    ∙ ap
-    (λ (z : Bool). let with : Machine = record u { focal = record u.focal { position = Memory next; at_line_00 = z } } in with)
-    back.no_line_00
-    ∙ ap (λ (r : List Position). before_line u.memory next false r u.focal.lift) back.returns
+rebuilt s u next Property back = rw (← back.position, ← back.no_line_00, ← back.returns) refl
 
 -- Memory is described by other data registers with the same contents.
 pub recontented : (old : RegisterMap) (stack : Stack) (contents others : ℕ → List ℕ) (memory : RegisterMap)
@@ -123,12 +113,7 @@ module _ (pages : PageMap) (old : RegisterMap) (sixteen : length old.status ≡ 
       ∙ is.data_are n inside
 
   pub lines_there : (at : ℕ) (lines : List Line) → HasProgram old at lines → HasProgram memory at lines
-  lines_there at lines has = record {
-    listed = has.listed;
-    others = has.others;
-    from = depends.lists old memory at has.listed agree has.from;
-    are = has.are;
-  }
+  lines_there at lines has = lines_also old memory at lines agree has
 
   pub program_there : (at : ℕ) (lines : List Line) → IsProgram old at lines → IsProgram memory at lines
   program_there at lines program = program_also old memory at lines agree program

@@ -1,14 +1,13 @@
 -- The counter i.nnn, which counts up to nnn.
 use Rattle.std.proofs.Common.{◌≡◌, ℕ, suc, ◌+◌, ◌-◌, ◌*◌, ◌/◌, ◌%◌, ◌^◌, ◌<◌, ◌≤◌, true, false, refl, sym, ap, ◌∙◌, arith}
 use Rattle.std.specs.Prelude.{ℤ, pos, ◌==◌, if◌then◌else◌, int_le, int_lt, unsigned_abs, ◌+ℤ◌, ◌-ℤ◌}
-use Rattle.std.proofs.lemmas.Grind.{common_steps}
 use Rattle.std.proofs.lemmas.Int.{ints}
 use Rattle.h41_decimal.specs.Signs.{sign_of, with_sign}
 use Rattle.h41_decimal.specs.Units.{one, units}
 use Rattle.h41_decimal.specs.WholeParts.{IsFraction, IsIntegerPart}
 use Rattle.h41_decimal.specs.declared.ten.Ten.{Ten}
 use Rattle.h41_rows.specs.Counters.{Down, Up, count_of, counter_after, goes_on, number_after}
-use Rattle.h41_reasoning_lines.proofs.Wholes.{ten_at, whole}
+use Rattle.h41_reasoning_lines.proofs.Wholes.{le_fails, le_holds, lt_fails, lt_holds, ten_at, whole}
 use Rattle.h41_reasoning_lines.proofs.WholeSteps.{whole_part}
 
 -- i.nnn, in units.
@@ -50,16 +49,10 @@ module _ (i n : ℕ) (few : n < 1000) where
 
   -- The loop continues while there is another register.
   pub continues : i + 1 ≤ n → goes_on Up (pos (counter i n)) ≡ true
-  continues more = tested ∙ at_most (i + 1) n more
-    where
-      at_most : (a b : ℕ) → a ≤ b → int_le (pos a) (pos b) ≡ true
-      at_most a b order = grind (arith, common_steps)
+  continues more = tested ∙ le_holds (i + 1) n more
 
   pub passes : n < i + 1 → goes_on Up (pos (counter i n)) ≡ false
-  passes less = tested ∙ above (i + 1) n less
-    where
-      above : (a b : ℕ) → b < a → int_le (pos a) (pos b) ≡ false
-      above a b order = grind (arith, common_steps)
+  passes less = tested ∙ le_fails (i + 1) n less
 
   pub ends : i ≡ n → goes_on Up (pos (counter i n)) ≡ false
   ends same = passes (omega (arith, same))
@@ -94,16 +87,10 @@ module _ (i n : ℕ) (few : n < 1000) (some : 0 < i) where
   tested_some = ap (λ (k : ℕ). goes_on Down (pos (counter k n))) (sym some_is) ∙ tested_down (i - 1) n few
 
   pub continues_down : n < i - 1 → goes_on Down (pos (counter i n)) ≡ true
-  continues_down more = tested_some ∙ below n (i - 1) more
-    where
-      below : (a b : ℕ) → a < b → int_lt (pos a) (pos b) ≡ true
-      below a b less = grind (arith, common_steps)
+  continues_down more = tested_some ∙ lt_holds n (i - 1) more
 
   pub passes_down : i - 1 ≤ n → goes_on Down (pos (counter i n)) ≡ false
-  passes_down order = tested_some ∙ above n (i - 1) order
-    where
-      above : (a b : ℕ) → b ≤ a → int_lt (pos a) (pos b) ≡ false
-      above a b most = grind (arith, common_steps)
+  passes_down order = tested_some ∙ lt_fails n (i - 1) order
 
 -- The integer part of a counter.
 pub count_is : (i n : ℕ) → n < 1000 → IsIntegerPart (pos (counter i n)) (whole i)

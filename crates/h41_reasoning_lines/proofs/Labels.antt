@@ -2,7 +2,7 @@
 use Rattle.std.proofs.Common.{◌≡◌, ℕ, ◌≤◌, Bool, true, false, List, [], ◌∷◌, ◌++◌, Option, Some, None, refl, sym, ap, ◌∙◌, subst, arith}
 use Rattle.std.specs.Prelude.{◌&&◌, MatchBool, find, nat_lt, reverse, if◌then◌else◌}
 use Rattle.std.specs.Option.{option_map_or, option_or}
-use Rattle.std.proofs.lemmas.Bool.Decides.{nat_tests}
+use Rattle.std.proofs.lemmas.Bool.{le-ltb, lt-ltb, ltb-true}
 use Rattle.std.proofs.lemmas.List.{reverse-append, reverse-reverse}
 use Rattle.std.proofs.lemmas.List.Folds.{find-append}
 use Rattle.h41_codes.specs.declared.line.Line.{Line}
@@ -74,17 +74,11 @@ first_holds true two both = refl
 first_holds false two both = both
 
 later_too : (one : Bool) (position start at : ℕ) → (one && nat_lt position start) ≡ true → start ≤ at → (one && nat_lt position at) ≡ true
-later_too true position start at both from = still position start at both from
-  where
-    still : (position start at : ℕ) → nat_lt position start ≡ true → start ≤ at → nat_lt position at ≡ true
-    still position start at less from = grind (arith, nat_tests)
+later_too true position start at both from = lt-ltb position at (omega (arith, ltb-true position start both, from))
 later_too false position start at both from = both
 
 late : (one : Bool) (position at : ℕ) → at ≤ position → (one && nat_lt position at) ≡ false
-late true position at from = not_less position at from
-  where
-    not_less : (position at : ℕ) → at ≤ position → nat_lt position at ≡ false
-    not_less position at from = grind (arith, nat_tests)
+late true position at from = le-ltb position at from
 late false position at from = refl
 
 no_end_there : (end : Bool) (position at : ℕ) → end ≡ false → (end && nat_lt position at) ≡ false

@@ -1,10 +1,10 @@
 -- What was loaded is a program.
-use Rattle.std.proofs.Common.{◌≡◌, ℕ, ◌+◌, ◌<◌, ◌≤◌, Bool, true, false, List, [], ◌∷◌, ◌++◌, Option, Some, None, Result, Ok, Err, length}
+use Rattle.std.proofs.Common.{◌≡◌, ℕ, ◌+◌, ◌≤◌, Bool, true, false, List, [], ◌∷◌, ◌++◌, Option, Some, None, Result, Ok, Err, length}
 use Rattle.std.proofs.Common.{refl, sym, ap, ◌∙◌, subst, arith, append_assoc, append-nil, inl, inr}
 use Rattle.std.specs.Prelude.{◌&&◌, nat_lt, not}
 use Rattle.std.specs.Option.{option_map_or}
 use Rattle.std.proofs.lemmas.Bool.{cases_Bool}
-use Rattle.std.proofs.lemmas.Bool.Decides.{nat_tests}
+use Rattle.std.proofs.lemmas.Bool.{lt-ltb}
 use Rattle.h41_codes.specs.declared.line.Line.{Line}
 use Rattle.h41_codes.specs.declared.line.Line.TheVariants.{End, FinalEnd}
 use Rattle.h41_program.specs.Edits.{LoadGives, LoadsBehind, before_end, is_open, lines_of, load_outcome, loaded_of}
@@ -82,10 +82,7 @@ parts_of (line ∷ front) (first ∷ more) rest are =
 -- An END among lines is before the byte after it.
 end_passed : (line : Line) (position : ℕ) → is_end line ≡ true
     → (is_end line && nat_lt position (behind (record { position = position; line = line }))) ≡ true
-end_passed (End link marks) position is = below position (position + 3) (omega arith)
-  where
-    below : (a b : ℕ) → a < b → nat_lt a b ≡ true
-    below a b less = grind (arith, nat_tests)
+end_passed (End link marks) position is = lt-ltb position (position + 3) (omega arith)
 end_passed line position is = absurd (cc)
 
 module _ (memory : RegisterMap) (sound : is_sound memory ≡ true) where

@@ -1,5 +1,5 @@
 -- Memory as theorems about programs describe it, after the stack or a data register was written.
-use Rattle.std.proofs.Common.{◌≡◌, ◌≢◌, ℕ, ◌+◌, ◌-◌, ◌<◌, ◌≤◌, Bool, true, false, List, [], ◌∷◌, length, drop, if◌then◌else◌}
+use Rattle.std.proofs.Common.{◌≡◌, ◌≢◌, ℕ, ◌+◌, ◌-◌, ◌<◌, ◌≤◌, Bool, true, false, List, ◌∷◌, length, drop, if◌then◌else◌}
 use Rattle.std.proofs.Common.{get_or, set, get_or-set_same, get_or-set_other, length-set, refl, sym, ap, ◌∙◌, subst, arith}
 use Rattle.std.specs.Prelude.{nat_lt, ◌==◌, slice_index_or}
 use Rattle.std.proofs.lemmas.Bool.{eqb-true, eqb-false}
@@ -12,33 +12,18 @@ use Rattle.h41_ram.specs.RegisterMap.{status_end, three_digits, with_register, z
 use Rattle.h41_reasoning_lines.specs.ProgramStates.{HasBecome, data_in, with_content}
 use Rattle.h41_reasoning_lines.specs.Stacks.{Stack, stack_of, with_stack}
 use Rattle.h41_reasoning_lines.proofs.Stacks.{main_register}
-use Rattle.h41_reasoning_lines.proofs.Stepping.{own_stack}
+use Rattle.h41_reasoning_lines.proofs.Stepping.{own_stack, whole_list}
 
 -- The status registers after the stack do not depend on it.
 c_behind : (status : List (List ℕ)) → 5 ≤ length status → slice_index_or status 13 zeros ≡ slice_index_or (drop 5 status) 8 zeros
-c_behind [] enough = absurd (omega (arith, enough))
-c_behind (a ∷ []) enough = absurd (omega (arith, enough))
-c_behind (a ∷ b ∷ []) enough = absurd (omega (arith, enough))
-c_behind (a ∷ b ∷ c ∷ []) enough = absurd (omega (arith, enough))
-c_behind (a ∷ b ∷ c ∷ d ∷ []) enough = absurd (omega (arith, enough))
-c_behind (a ∷ b ∷ c ∷ d ∷ e ∷ rest) enough = refl
+c_behind status enough = ap (λ (own : List (List ℕ)). slice_index_or own 13 zeros) (sym (whole_list status enough))
 
 d_behind : (status : List (List ℕ)) → 5 ≤ length status → slice_index_or status 14 zeros ≡ slice_index_or (drop 5 status) 9 zeros
-d_behind [] enough = absurd (omega (arith, enough))
-d_behind (a ∷ []) enough = absurd (omega (arith, enough))
-d_behind (a ∷ b ∷ []) enough = absurd (omega (arith, enough))
-d_behind (a ∷ b ∷ c ∷ []) enough = absurd (omega (arith, enough))
-d_behind (a ∷ b ∷ c ∷ d ∷ []) enough = absurd (omega (arith, enough))
-d_behind (a ∷ b ∷ c ∷ d ∷ e ∷ rest) enough = refl
+d_behind status enough = ap (λ (own : List (List ℕ)). slice_index_or own 14 zeros) (sym (whole_list status enough))
 
 -- With another stack there are as many status registers.
 as_many : (status : List (List ℕ)) (t z y x last : List ℕ) → length status ≡ 16 → length (t ∷ z ∷ y ∷ x ∷ last ∷ drop 5 status) ≡ 16
-as_many [] t z y x last size = absurd (omega (arith, size))
-as_many (a ∷ []) t z y x last size = absurd (omega (arith, size))
-as_many (a ∷ b ∷ []) t z y x last size = absurd (omega (arith, size))
-as_many (a ∷ b ∷ c ∷ []) t z y x last size = absurd (omega (arith, size))
-as_many (a ∷ b ∷ c ∷ d ∷ []) t z y x last size = absurd (omega (arith, size))
-as_many (a ∷ b ∷ c ∷ d ∷ e ∷ rest) t z y x last size = size
+as_many status t z y x last size = ap length (whole_list status (omega (arith, size))) ∙ size
 
 -- Main memory does not depend on the stack.
 main_stays : (stack : Stack) (memory : RegisterMap) (address : ℕ) → length memory.status ≡ 16 → main_start ≤ address

@@ -1,5 +1,5 @@
 -- What a line does to memory as theorems about programs describe it: the line continues, and memory has become this.
-use Rattle.std.proofs.Common.{◌≡◌, ℕ, ◌<◌, Bool, true, false, List, [], ◌∷◌, Some, None, Result, Ok, Err, refl, sym, ap, ◌∙◌}
+use Rattle.std.proofs.Common.{◌≡◌, ℕ, ◌<◌, Bool, true, false, List, [], ◌∷◌, Some, Result, Ok, Err, refl, sym, ap, ◌∙◌}
 use Rattle.std.proofs.Common.{subst, arith, length}
 use Rattle.std.specs.Prelude.{if◌then◌else◌, pos}
 use Rattle.h41_codes.specs.declared.characters.Character.{Character}
@@ -39,7 +39,7 @@ use Rattle.h41_reasoning_lines.specs.ProgramStates.{HasBecome, with_content}
 use Rattle.h41_reasoning_lines.specs.Stacks.{Stack, with_stack}
 use Rattle.h41_reasoning_lines.proofs.Listed.{IsLineAt, also}
 use Rattle.h41_reasoning_lines.proofs.ProgramStates.{address_stays, flag_stays, own, program_stays, restacked, rewritten, size_stays}
-use Rattle.h41_reasoning_lines.proofs.Registers.{data_found, number_in_x, number_over, recalled_short, recalled_short_over, stored_short}
+use Rattle.h41_reasoning_lines.proofs.Registers.{coming, data_found, number_in_x, recalled_short, stored_short}
 use Rattle.h41_reasoning_lines.proofs.Stepping.{Back, after_line, before_line, ended, entered, exchanged, global_label, go_to, label}
 use Rattle.h41_reasoning_lines.proofs.Stepping.{lifts, of_one, of_two, own_place, plain, returned, rolled_down, test_false, test_true}
 
@@ -63,11 +63,6 @@ pi_ten =
       mantissa = record { digits = 3141592654; at_least = omega arith; below = omega arith };
       exponent = record { biased = 99; in_range = omega arith };
     }
-
--- The stack after a register has come into X, with stack lift on and off.
-abbrev pub coming : Bool → Stack → List ℕ → Stack
-coming true stack register = record { t = stack.z; z = stack.y; y = stack.x; x = register; last = stack.last }
-coming false stack register = record stack { x = register }
 
 -- The stack after a function of Y and X, and after a function of X.
 abbrev pub dropped : Stack → List ℕ → Stack
@@ -137,29 +132,20 @@ module _ (pages : PageMap) (old : RegisterMap) (sixteen : length old.status ≡ 
   -- RCL 00 to RCL 15.
   pub recalls : (n : ℕ) → n < size_of old → IsLineAt old at (lines.Register RecallRegister n) next → (lift : Bool)
       → Reaches pages old (before lift) (coming lift stack (contents n)) contents next returns true
-  recalls n inside line true =
-      by_stack true (coming true stack (contents n)) next true
+  recalls n inside line lift =
+      by_stack lift (coming lift stack (contents n)) next true
       (subst
-      (λ (r : List ℕ). Continues pages (before_same true) (after_line (with_stack (coming true stack r) memory) next returns true))
+      (λ (r : List ℕ). Continues pages (before_same lift) (after_line (with_stack (coming lift stack r) memory) next returns true))
       (same_is.data_are n inside)
-      (recalled_short pages stack memory at next zero returns (data_address old n) n (found_there n inside) (there _ at next line)))
-  recalls n inside line false =
-      by_stack false (coming false stack (contents n)) next true
-      (subst
-      (λ (r : List ℕ). Continues pages (before_same false) (after_line (with_stack (coming false stack r) memory) next returns true))
-      (same_is.data_are n inside)
-      (recalled_short_over pages stack memory at next zero returns (data_address old n) n (found_there n inside) (there _ at next line)))
+      (recalled_short pages stack memory at next zero returns (data_address old n) n (found_there n inside) (there _ at next line) lift))
 
   -- Number lines.
   module _ (characters : List Character) (number : Ten) (register : List ℕ) (is_number : IsNumberOf characters number)
       (is_register : IsRegisterOf (units number) register) (line : IsLineAt old at (lines.Number characters) next) where
     pub enters_number : (lift : Bool) → Reaches pages old (before lift) (coming lift stack register) contents next returns true
-    enters_number true =
-        by_stack true (coming true stack register) next true
-        (number_in_x pages stack memory at next zero returns 0 characters number register is_number is_register (there _ at next line))
-    enters_number false =
-        by_stack false (coming false stack register) next true
-        (number_over pages stack memory at next zero returns 0 characters number register is_number is_register (there _ at next line))
+    enters_number lift =
+        by_stack lift (coming lift stack register) next true
+        (number_in_x pages stack memory at next zero returns 0 characters number register is_number is_register (there _ at next line) lift)
 
   -- LASTX.
   pub recalls_last : IsLineAt old at (lines.Plain functions.LastX) next → (lift : Bool)

@@ -221,15 +221,15 @@ module _ (memory : RegisterMap) (sound : is_sound memory ≡ true) where
           (label_up_to label after (IsLast memory last) n jump_on.here.next jump_on.here.rest (second ∷ middle) jump_on.rest inner_middle
           others)))
 
--- A program is there in each memory with the same program memory.
+-- Lines and programs are there in each memory with the same program memory.
+pub lines_also : (memory other : RegisterMap) (at : ℕ) (lines : List Line) → SameProgram memory other → HasProgram memory at lines
+    → HasProgram other at lines
+lines_also memory other at lines agree has =
+    record { listed = has.listed; others = has.others; from = depends.lists memory other at has.listed agree has.from; are = has.are }
+
 pub program_also : (memory other : RegisterMap) (at : ℕ) (lines : List Line) → SameProgram memory other → IsProgram memory at lines
     → IsProgram other at lines
 program_also memory other at lines agree program = record {
-  has = record {
-    listed = program.has.listed;
-    others = program.has.others;
-    from = depends.lists memory other at program.has.listed agree program.has.from;
-    are = program.has.are;
-  };
+  has = lines_also memory other at lines agree program.has;
   begins = depends.answers memory other (start_in at) 0 at agree program.begins;
 }

@@ -4,7 +4,7 @@ use Rattle.std.proofs.Common.{inl, inr, refl, ap, ◌∙◌, subst, arith}
 use Rattle.std.specs.Prelude.{ℤ, pos, negsuc, ◌==◌, nat_le, unsigned_abs}
 use Rattle.std.proofs.Math.Nat.{mul-le-mul_right}
 use Rattle.std.proofs.lemmas.Bool.{cases_lt}
-use Rattle.std.proofs.lemmas.Bool.Decides.{nat_tests}
+use Rattle.std.proofs.lemmas.Bool.{le-leb}
 use Rattle.h41_decimal.specs.NearestDecimal.{Fraction, IsAtLeast, IsBounded, IsNear, IsRounded, IsTenDigits, Nearest, down_of, up_of}
 use Rattle.h41_decimal.specs.Signs.{sign_of, with_sign}
 use Rattle.h41_decimal.specs.Units.{size_of, units}
@@ -82,7 +82,7 @@ module _ (first steps : ℕ) (some : 1 ≤ first) (one_digit : first ≤ 9) (lon
         record { ten = Zero; is = bounded; within = omega arith }
     bounded_within sign digits (pos up) answer ten near bounded =
         let within = digits_within digits up near in
-        let inside : nat_le up 198 ≡ true = holds up 198 (few_steps digits up ten.at_least within) in
+        let inside : nat_le up 198 ≡ true = le-leb up 198 (few_steps digits up ten.at_least within) in
         let found = ok_part answer (λ (number : Ten). units number ≡ with_sign sign (size_of digits up))
         (subst (λ (b : Bool). MatchBool b (IsOkAnd answer (λ number. units number ≡ with_sign sign (size_of digits up)))
         (answer ≡ Err Range))
@@ -90,9 +90,6 @@ module _ (first steps : ℕ) (some : 1 ≤ first) (one_digit : first ≤ 9) (lon
         let size : unsigned_abs (units found.0) ≡ digits * 10 ^ up =
         ap unsigned_abs found.2 ∙ unsigned_abs-signed sign (digits * 10 ^ up) in
         record { ten = found.0; is = found.1; within = omega (arith, size, within) }
-      where
-        holds : (a b : ℕ) → a ≤ b → nat_le a b ≡ true
-        holds a b order = grind (arith, nat_tests)
 
     rounded_within : (sign : Sign) (answer : Result Ten DecimalFault) → IsRounded sign (Fraction n d) answer → IsWithin most answer
     rounded_within sign answer is = bounded_within sign is.digits is.exponent answer is.ten_digits is.near is.bounded

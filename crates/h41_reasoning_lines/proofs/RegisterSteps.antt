@@ -1,14 +1,14 @@
 -- What lines with a register do to memory as theorems about programs describe it, for each data register and with IND: RCL, STO, X<>, and
 -- arithmetic in a register, such as ST+.
-use Rattle.std.proofs.Common.{◌≡◌, ℕ, ◌/◌, ◌<◌, Bool, true, false, List, None, Result, Ok, Err, refl, sym, ap, ◌∙◌, subst, length, arith}
-use Rattle.std.specs.Prelude.{if◌then◌else◌, ◌&&◌, is_some, ℤ, pos, unsigned_abs}
+use Rattle.std.proofs.Common.{◌≡◌, ℕ, ◌/◌, ◌<◌, Bool, true, false, List, Result, Ok, Err, refl, sym, ap, ◌∙◌, subst, length, arith}
+use Rattle.std.specs.Prelude.{if◌then◌else◌, ℤ, pos, unsigned_abs}
 use Rattle.h41_codes.specs.declared.functions.ParameterFunction.{ParameterFunction}
 use Rattle.h41_codes.specs.declared.functions.ParameterFunction.TheVariants as functions
 use Rattle.h41_codes.specs.declared.line.Line.{Line}
 use Rattle.h41_codes.specs.declared.line.Line.TheVariants.{WithOperand}
 use Rattle.h41_codes.specs.declared.line.Operand.{Operand}
 use Rattle.h41_codes.specs.declared.line.Operand.TheVariants.{Direct, Indirect}
-use Rattle.h41_decimal.specs.Holding.{Number, holding_of, number_in}
+use Rattle.h41_decimal.specs.Holding.{Number, holding_of}
 use Rattle.h41_decimal.specs.Units.{one, units}
 use Rattle.h41_decimal.specs.declared.fault.DecimalFault.TheVariants.{Data, Range}
 use Rattle.h41_decimal.specs.declared.ten.Ten.{Ten}
@@ -24,23 +24,23 @@ use Rattle.h41_ram.specs.NamedRegisters.{data_address, size_of}
 use Rattle.h41_ram.specs.RegisterMap.{RegisterMap, flag_of, is_sound, register_at, with_register, zeros}
 use Rattle.h41_rows.specs.LineRows.{into_register, register_row}
 use Rattle.h41_rows.specs.Operands.{RegisterKind, address_of, kind_of}
-use Rattle.h41_rows.specs.Places.{Named, X, amount_in}
+use Rattle.h41_rows.specs.Places.{Named, X}
 use Rattle.h41_rows.specs.Profile.{is_left_out}
-use Rattle.h41_rows.specs.Values.{IsOfTwo, IsRegisterOf, OfTwo, sign_of_value}
+use Rattle.h41_rows.specs.Values.{IsOfTwo, IsRegisterOf, OfTwo}
 use Rattle.h41_rows.specs.declared.fault.LineFault.{LineFault}
 use Rattle.h41_rows.specs.declared.fault.LineFault.TheVariants.{DataError, OutOfRange}
 use Rattle.h41_rows.specs.declared.values.ValueOfTwo.{ValueOfTwo}
 use Rattle.h41_reasoning_lines.specs.LineRuns.{Continues}
 use Rattle.h41_reasoning_lines.specs.ProgramStates.{HasBecome, with_content}
 use Rattle.h41_reasoning_lines.specs.Stacks.{Stack, with_stack}
-use Rattle.h41_reasoning_lines.proofs.Computing.{amount_of, both, number_there, there}
+use Rattle.h41_reasoning_lines.proofs.Computing.{answers_two}
 use Rattle.h41_reasoning_lines.proofs.Counters.{counter, whole_is}
-use Rattle.h41_reasoning_lines.proofs.Errors.{kept_out}
+use Rattle.h41_reasoning_lines.proofs.Errors.{out_of_two}
 use Rattle.h41_reasoning_lines.proofs.Listed.{IsLineAt, also}
 use Rattle.h41_reasoning_lines.proofs.ProgramStates.{address_stays, own, program_stays, restacked, rewritten, size_stays}
-use Rattle.h41_reasoning_lines.proofs.ProgramSteps.{Reaches, by_register, by_stack, clear_there, coming}
-use Rattle.h41_reasoning_lines.proofs.Registers.{computed_there, direct, indirect, recalled, recalled_over, stored, with_parameter}
-use Rattle.h41_reasoning_lines.proofs.Stepping.{after_line, before_line, holding_true}
+use Rattle.h41_reasoning_lines.proofs.ProgramSteps.{Reaches, by_register, by_stack, clear_there}
+use Rattle.h41_reasoning_lines.proofs.Registers.{coming, computed_there, direct, indirect, recalled, stored, with_parameter}
+use Rattle.h41_reasoning_lines.proofs.Stepping.{after_line, before_line}
 use Rattle.h41_reasoning_lines.proofs.Wholes.{whole}
 
 -- The number of the register that an operand with IND means: a whole number, or the count of a counter of ISG and DSE.
@@ -49,47 +49,6 @@ index_whole k n same = omega (arith, same)
 
 pub index_counter : (k f n : ℕ) → f < 1000 → k ≡ n → unsigned_abs (pos (counter k f)) / one ≡ n
 index_counter k f n few same = whole_is k f few ∙ same
-
--- Arithmetic in the register at an address, which contains y, with X, which contains x.
-module _ (stack : Stack) (memory : RegisterMap) (address : ℕ) (two : ValueOfTwo) (y x : ℤ)
-    (in_register : holding_of (register_at (with_stack stack memory) address) ≡ Number y) (in_x : holding_of stack.x ≡ Number x) where
-  abbrev here : RegisterMap
-  here = with_stack stack memory
-
-  numbers : (is_some (number_in (register_at here address)) && (is_some (number_in stack.x) && true)) ≡ true
-  numbers =
-      both (is_some (number_in (register_at here address))) (is_some (number_in stack.x))
-      (there (number_in (register_at here address)) y (number_there (register_at here address) y in_register))
-      (there (number_in stack.x) x (number_there stack.x x in_x))
-
-  -- What is true of the numbers is true of the amounts in the register and in X.
-  in_places : (P : ℤ → ℤ → Type 0) → P y x → P (amount_in here address Named) (amount_in here address X)
-  in_places P is =
-      subst (λ (a : ℤ). P a (amount_in here address X)) (sym (amount_of (register_at here address) y in_register))
-      (subst (λ (b : ℤ). P y b) (sym (amount_of stack.x x in_x)) is)
-
-  result_in : (answer : Ten) (result : List ℕ) → IsRegisterOf (units answer) result → IsOfTwo two y x (Ok answer)
-      → Works here address (into_register (OfTwo two Named X)) (Ok result)
-  result_in answer result is nearest =
-      holding_true (is_some (number_in (register_at here address)) && (is_some (number_in stack.x) && true)) _ _ numbers
-      record { answer = Ok answer; nearest = in_places (λ (a b : ℤ). IsOfTwo two a b (Ok answer)) nearest; kept = is }
-
-  -- The result is out of range.
-  range_in : flag_of here range_ignore ≡ false → IsOfTwo two y x (Err Range)
-      → Works here address (into_register (OfTwo two Named X)) (Err OutOfRange)
-  range_in clear nearest =
-      holding_true (is_some (number_in (register_at here address)) && (is_some (number_in stack.x) && true)) _ _ numbers
-      record {
-        answer = Err Range;
-        nearest = in_places (λ (a b : ℤ). IsOfTwo two a b (Err Range)) nearest;
-        kept = kept_out (sign_of_value (OfTwo two Named X) here address) (flag_of here range_ignore) clear;
-      }
-
-  -- There is no result: X is zero, and the register is divided by it.
-  data_in : IsOfTwo two y x (Err Data) → Works here address (into_register (OfTwo two Named X)) (Err DataError)
-  data_in nearest =
-      holding_true (is_some (number_in (register_at here address)) && (is_some (number_in stack.x) && true)) _ _ numbers
-      record { answer = Err Data; nearest = in_places (λ (a b : ℤ). IsOfTwo two a b (Err Data)) nearest; kept = refl }
 
 module _ (pages : PageMap) (old : RegisterMap) (sixteen : length old.status ≡ 16) (sound : is_sound old ≡ true)
     (stack : Stack) (contents : ℕ → List ℕ) (memory : RegisterMap) (is : HasBecome old stack contents memory)
@@ -136,20 +95,13 @@ module _ (pages : PageMap) (old : RegisterMap) (sixteen : length old.status ≡ 
     module _ (supported : is_left_out (WithOperand functions.Recall operand) ≡ false)
         (line : IsLineAt old at (WithOperand functions.Recall operand) next) where
       pub recalls_by : (lift : Bool) → Reaches pages old (before lift) (coming lift stack (contents n)) contents next returns true
-      recalls_by true =
-          by_stack pages old sixteen sound stack contents memory is at next zero returns true (coming true stack (contents n)) next true
+      recalls_by lift =
+          by_stack pages old sixteen sound stack contents memory is at next zero returns lift (coming lift stack (contents n)) next true
           (subst
-          (λ (r : List ℕ). Continues pages (before_line same at zero returns true)
-          (after_line (with_stack (coming true stack r) memory) next returns true))
+          (λ (r : List ℕ). Continues pages (before_line same at zero returns lift)
+          (after_line (with_stack (coming lift stack r) memory) next returns true))
           (same_is.data_are n inside)
-          (recalled pages stack memory at next zero returns place operand supported means (line_there _ at next line)))
-      recalls_by false =
-          by_stack pages old sixteen sound stack contents memory is at next zero returns false (coming false stack (contents n)) next true
-          (subst
-          (λ (r : List ℕ). Continues pages (before_line same at zero returns false)
-          (after_line (with_stack (coming false stack r) memory) next returns true))
-          (same_is.data_are n inside)
-          (recalled_over pages stack memory at next zero returns place operand supported means (line_there _ at next line)))
+          (recalled pages stack memory at next zero returns place operand supported means (line_there _ at next line) lift))
 
     module _ (lift : Bool) where
       pub stores_by : is_left_out (WithOperand functions.Store operand) ≡ false
@@ -199,7 +151,8 @@ module _ (pages : PageMap) (old : RegisterMap) (sixteen : length old.status ≡ 
         computes_by answer result is_register nearest =
             by_register pages old sixteen sound stack contents memory is at next zero returns lift n result inside next true
             (computed_there pages same at next zero returns lift place result function operand (OfTwo two Named X) has kind supported means
-            (line_there _ at next line) (result_in stack memory place two y x holds_there in_x answer result is_register nearest))
+            (line_there _ at next line)
+            (answers_two same place Named X y x holds_there in_x two (Ok answer) (Ok result) nearest is_register))
 
         -- The line has an error, which stops the program unless flag 25 is set.
         stops : (fault : LineFault) → flag_of old error_flag ≡ false
@@ -225,9 +178,10 @@ module _ (pages : PageMap) (old : RegisterMap) (sixteen : length old.status ≡ 
             → StepsLine pages (before lift) (Ok (left_failed (after_line memory at returns lift) OutOfRange))
         out_of_range_by clear clear_range nearest =
             stops OutOfRange clear
-            (range_in stack memory place two y x holds_there in_x
-            (clear_there pages old sixteen sound stack contents memory is at next zero returns range_ignore clear_range) nearest)
+            (out_of_two same place Named X y x holds_there in_x
+            (clear_there pages old sixteen sound stack contents memory is at next zero returns range_ignore clear_range) two nearest)
 
         pub data_error_by : flag_of old error_flag ≡ false → IsOfTwo two y x (Err Data)
             → StepsLine pages (before lift) (Ok (left_failed (after_line memory at returns lift) DataError))
-        data_error_by clear nearest = stops DataError clear (data_in stack memory place two y x holds_there in_x nearest)
+        data_error_by clear nearest =
+            stops DataError clear (answers_two same place Named X y x holds_there in_x two (Err Data) (Err DataError) nearest refl)

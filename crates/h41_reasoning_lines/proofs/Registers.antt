@@ -1,9 +1,10 @@
 -- Lines with a register: the register that an operand means, and the state after RCL, STO, arithmetic in a register, ISG
 -- and DSE.
-use Rattle.std.proofs.Common.{◌≡◌, ℕ, ◌-◌, ◌/◌, ◌<◌, Bool, true, false, List, Some, None, Result, Ok, Err}
+use Rattle.std.proofs.Common.{◌≡◌, ℕ, ◌-◌, ◌/◌, ◌<◌, Bool, true, false, List, Some, Result, Ok, Err}
 use Rattle.std.proofs.Common.{refl, sym, ap, ◌∙◌, subst, arith, inl}
-use Rattle.std.specs.Prelude.{MatchBool, ◌&&◌, if◌then◌else◌, is_some, nat_lt, ℤ, unsigned_abs}
+use Rattle.std.specs.Prelude.{MatchBool, ◌&&◌, if◌then◌else◌, is_some, ℤ, unsigned_abs}
 use Rattle.std.proofs.lemmas.Bool.Decides.{nat_tests}
+use Rattle.std.proofs.lemmas.Bool.{lt-ltb}
 use Rattle.h41_codes.specs.declared.characters.Character.{Character}
 use Rattle.h41_codes.specs.declared.functions.ParameterFunction.{ParameterFunction}
 use Rattle.h41_codes.specs.declared.functions.ParameterFunction.TheVariants as functions
@@ -45,20 +46,17 @@ use Rattle.h41_reasoning_lines.proofs.Computing.{amount_of, both, number_there, 
 use Rattle.h41_reasoning_lines.proofs.Listed.{IsLineAt}
 use Rattle.h41_reasoning_lines.proofs.Stepping.{after_line, before_line, holding_true, taken}
 
-less_holds : (a b : ℕ) → a < b → nat_lt a b ≡ true
-less_holds a b less = grind (arith, nat_tests)
-
 -- The register of a number below SIZE.
 pub data_found : (memory : RegisterMap) (n : ℕ) → n < size_of memory → data_register memory n ≡ Ok (data_address memory n)
 data_found memory n below =
     ap (λ (yes : Bool). let found : Result ℕ LineFault = if yes then Ok (data_address memory n) else Err Nonexistent in found)
-    (less_holds n (size_of memory) below)
+    (lt-ltb n (size_of memory) below)
 
 -- A direct operand below 100 means the data register with this number.
 pub direct : (memory : RegisterMap) (n : ℕ) → n < 100 → n < size_of memory → address_of memory (Direct n) ≡ Ok (data_address memory n)
 direct memory n small below =
     ap (λ (yes : Bool). let found : Result ℕ LineFault = if yes then data_register memory n else Ok (n - 112) in found)
-    (less_holds n 100 small)
+    (lt-ltb n 100 small)
     ∙ data_found memory n below
 
 -- An indirect operand means the data register whose number is in another register.
@@ -150,6 +148,11 @@ module _ (pages : PageMap) (memory : RegisterMap) (at next : ℕ) (zero : Bool) 
             (Arrives (Memory after) returns, rw fails (inl (Memory after, (Ok after, other.onward, refl), refl)), refl),
           )
 
+-- The stack after a register has come into X, with stack lift on and off.
+abbrev pub coming : Bool → Stack → List ℕ → Stack
+coming true stack register = record { t = stack.z; z = stack.y; y = stack.x; x = register; last = stack.last }
+coming false stack register = record stack { x = register }
+
 -- RCL and STO.
 module _ (pages : PageMap) (stack : Stack) (memory : RegisterMap) (at next : ℕ) (zero : Bool) (returns : List Position) (address : ℕ) where
   abbrev own : RegisterMap
@@ -161,31 +164,22 @@ module _ (pages : PageMap) (stack : Stack) (memory : RegisterMap) (at next : ℕ
   abbrev gone : Stack → Machine
   gone other = after_line (with_stack other memory) next returns true
 
-  -- The stack after RCL, with stack lift on.
-  abbrev lifted : List ℕ → Stack
-  lifted register = record stack { t = stack.z; z = stack.y; y = stack.x; x = register }
-
   module _ (operand : Operand) (known : is_left_out (WithOperand functions.Recall operand) ≡ false)
       (means : address_of own operand ≡ Ok address) (is : IsLineAt own at (WithOperand functions.Recall operand) next) where
-    pub recalled : Continues pages (before true) (gone (lifted (register_at own address)))
-    recalled =
+    pub recalled : (lift : Bool) → Continues pages (before lift) (gone (coming lift stack (register_at own address)))
+    recalled true =
         with_parameter pages own at next zero returns true address _ functions.Recall operand _ refl refl known means is
         (Ok zeros, refl, (Arrives (Memory next) returns, refl, refl))
-
-    -- With stack lift off, X is replaced.
-    pub recalled_over : Continues pages (before false) (gone (record stack { x = register_at own address }))
-    recalled_over =
+    recalled false =
         with_parameter pages own at next zero returns false address _ functions.Recall operand _ refl refl known means is
         (Ok zeros, refl, (Arrives (Memory next) returns, refl, refl))
 
   module _ (n : ℕ) (means : data_register own n ≡ Ok address) (is : IsLineAt own at (Register RecallRegister n) next) where
-    pub recalled_short : Continues pages (before true) (gone (lifted (register_at own address)))
-    recalled_short =
+    pub recalled_short : (lift : Bool) → Continues pages (before lift) (gone (coming lift stack (register_at own address)))
+    recalled_short true =
         short pages own at next zero returns true address _ RecallRegister n means is
         (Ok zeros, refl, (Arrives (Memory next) returns, refl, refl))
-
-    pub recalled_short_over : Continues pages (before false) (gone (record stack { x = register_at own address }))
-    recalled_short_over =
+    recalled_short false =
         short pages own at next zero returns false address _ RecallRegister n means is
         (Ok zeros, refl, (Arrives (Memory next) returns, refl, refl))
 
@@ -207,7 +201,7 @@ module _ (pages : PageMap) (stack : Stack) (memory : RegisterMap) (at next : ℕ
         short pages own at next zero returns lift address _ StoreRegister n means is
         (Ok zeros, refl, (Arrives (Memory next) returns, refl, refl))
 
-  -- A number line: with stack lift off, the number replaces X.
+  -- A number line.
   module _ (characters : List Character) (number : Ten) (register : List ℕ)
       (is_number : IsValue (values.Written characters) own 0 (Ok number))
       (is_register : IsRegisterOf (units number) register) (is : IsLineAt own at (NumberLine characters) next) where
@@ -217,14 +211,12 @@ module _ (pages : PageMap) (stack : Stack) (memory : RegisterMap) (at next : ℕ
     written_number : Works own 0 row (Ok register)
     written_number = record { answer = Ok number; nearest = is_number; kept = is_register }
 
-    pub number_over : Continues pages (before false) (gone (record stack { x = register }))
-    number_over =
-        taken pages own at next zero returns false (NumberLine characters) _ is
-        (Ok register, written_number, (Arrives (Memory next) returns, refl, refl))
-
-    pub number_in_x : Continues pages (before true) (gone (lifted register))
-    number_in_x =
+    pub number_in_x : (lift : Bool) → Continues pages (before lift) (gone (coming lift stack register))
+    number_in_x true =
         taken pages own at next zero returns true (NumberLine characters) _ is
+        (Ok register, written_number, (Arrives (Memory next) returns, refl, refl))
+    number_in_x false =
+        taken pages own at next zero returns false (NumberLine characters) _ is
         (Ok register, written_number, (Arrives (Memory next) returns, refl, refl))
 
 -- What ISG and DSE compute.

@@ -1,5 +1,5 @@
 -- Runs of lines with properties of states: parts in turn, and loops.
-use Rattle.std.proofs.Common.{◌≡◌, ℕ, zero, suc, ◌+◌, ◌*◌, ◌≤◌, ◌<◌, Ok, None, inl, inr, refl, subst, sym, arith, mul-le-mul_left, zero-add}
+use Rattle.std.proofs.Common.{◌≡◌, ℕ, zero, suc, ◌+◌, ◌*◌, ◌≤◌, ◌<◌, Ok, inl, inr, refl, subst, sym, arith, mul-le-mul_left, zero-add}
 use Rattle.std.proofs.Math.Nat.{mul-add}
 use Rattle.h41_focal.specs.LineStep.{Left, StepsLine}
 use Rattle.h41_pages.specs.PageMap.{PageMap}

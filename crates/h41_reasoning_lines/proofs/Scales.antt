@@ -2,7 +2,7 @@
 use Rattle.std.proofs.Common.{◌≡◌, ℕ, zero, suc, ◌*◌, ◌<◌, ◌≤◌, Bool, true, false, Ok, arith}
 use Rattle.std.specs.Prelude.{MatchBool, ◌==◌, pos, Result}
 use Rattle.std.proofs.Math.Nat.{mul-le-mul_right, mul-lt-mul_of_pos_right}
-use Rattle.std.proofs.lemmas.Bool.Decides.{nat_tests}
+use Rattle.std.proofs.lemmas.Bool.{ne_eqb}
 use Rattle.h41_decimal.specs.NearestDecimal.{Fraction, IsRounded, Nearest}
 use Rattle.h41_decimal.specs.declared.fault.DecimalFault.{DecimalFault}
 use Rattle.h41_decimal.specs.declared.sign.Sign.{Sign}
@@ -41,12 +41,9 @@ whole_part false A B is part = part
 pub scaled : (n c : ℕ) (answer : Ten) → 0 < n * c → 0 < c → Nearest (pos n) 1 (Ok answer) → Nearest (pos (n * c)) c (Ok answer)
 scaled n c answer some factor is =
     let whole : (n == 0) ≡ false = whole_some n c some in
-    let product : (n * c == 0) ≡ false = not_nought (n * c) some in
+    let product : (n * c == 0) ≡ false = ne_eqb (n * c) 0 (λ same. omega (arith, same, some)) in
     whole_part (n * c == 0) _ _ product (rounded Plus n c (Ok answer) factor (some_part (n == 0) _ _ whole is))
   where
-    not_nought : (m : ℕ) → 0 < m → (m == 0) ≡ false
-    not_nought m more = grind (arith, nat_tests)
-
     whole_some : (m k : ℕ) → 0 < m * k → (m == 0) ≡ false
     whole_some zero k more = absurd (omega (arith, more))
-    whole_some (suc m) k more = not_nought (suc m) (omega arith)
+    whole_some (suc m) k more = ne_eqb (suc m) 0 (λ same. omega (arith, same))

@@ -1,6 +1,7 @@
 -- The negative and the absolute value of a decimal are decimals, and so is 1 with the sign of a number.
 use Rattle.std.proofs.Common.{◌≡◌, ℕ, zero, suc, Ok, refl, sym, ap, ◌∙◌, subst, arith}
 use Rattle.std.specs.Prelude.{ℤ, pos, negsuc, neg_ℤ, unsigned_abs}
+use Rattle.std.proofs.Math.IntN.{neg_ℤ-neg_ℤ}
 use Rattle.h41_decimal.specs.Laws.{DecimalIsItsNearest}
 use Rattle.h41_decimal.specs.NearestDecimal.{Nearest}
 use Rattle.h41_decimal.specs.Signs.{sign_of, with_sign}
@@ -10,10 +11,6 @@ use Rattle.h41_decimal.specs.declared.sign.Sign.TheVariants.{Plus, Minus}
 use Rattle.h41_decimal.specs.declared.ten.Ten.{Ten}
 use Rattle.h41_decimal.specs.declared.ten.Ten.TheVariants.{Zero, Nonzero}
 
-twice : (n : ℕ) → neg_ℤ (neg_ℤ (pos n)) ≡ pos n
-twice zero = refl
-twice (suc n) = refl
-
 opposite_size : (n : ℕ) → unsigned_abs (neg_ℤ (pos n)) ≡ n
 opposite_size zero = refl
 opposite_size (suc n) = refl
@@ -22,12 +19,12 @@ signed_size : (sign : Sign) (n : ℕ) → unsigned_abs (with_sign sign n) ≡ n
 signed_size Plus n = refl
 signed_size Minus n = opposite_size n
 
-opposite : (number : Ten) → (other : Ten) × (units other ≡ neg_ℤ (units number))
+pub opposite : (number : Ten) → (other : Ten) × (units other ≡ neg_ℤ (units number))
 opposite Zero = (Zero, refl)
 opposite (Nonzero Plus x) = (Nonzero Minus x, refl)
-opposite (Nonzero Minus x) = (Nonzero Plus x, sym (twice (size x)))
+opposite (Nonzero Minus x) = (Nonzero Plus x, sym (neg_ℤ-neg_ℤ (pos (size x))))
 
-unsigned : (number : Ten) → (other : Ten) × (units other ≡ pos (unsigned_abs (units number)))
+pub unsigned : (number : Ten) → (other : Ten) × (units other ≡ pos (unsigned_abs (units number)))
 unsigned Zero = (Zero, refl)
 unsigned (Nonzero sign x) = (Nonzero Plus x, ap pos (sym (signed_size sign (size x))))
 

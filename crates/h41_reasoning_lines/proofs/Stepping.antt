@@ -1,5 +1,5 @@
 -- What one line does: the state after it is written out.
-use Rattle.std.proofs.Common.{◌≡◌, ℕ, ◌≤◌, Bool, true, false, List, [], ◌∷◌, Option, Some, None, Ok, Err, refl, sym, ap, subst, arith}
+use Rattle.std.proofs.Common.{◌≡◌, ℕ, ◌≤◌, Bool, true, false, List, [], ◌∷◌, Option, Some, Ok, Err, refl, sym, ap, subst, arith}
 use Rattle.std.proofs.Common.{inl, length, drop}
 use Rattle.std.specs.Prelude.{MatchBool, is_none, reverse, slice_index_or}
 use Rattle.std.specs.Option.{option_map_or}
@@ -40,7 +40,7 @@ abbrev pub after_line : RegisterMap → ℕ → List Position → Bool → Machi
 after_line memory at returns lift = before_line memory at false returns lift
 
 -- Each state at a position in memory is of this form.
-whole_list : (status : List (List ℕ)) → 5 ≤ length status
+pub whole_list : (status : List (List ℕ)) → 5 ≤ length status
     → slice_index_or status 0 zeros ∷ slice_index_or status 1 zeros ∷ slice_index_or status 2 zeros ∷ slice_index_or status 3 zeros
     ∷ slice_index_or status 4 zeros ∷ drop 5 status ≡ status
 whole_list [] enough = absurd (omega (arith, enough))

@@ -2,12 +2,8 @@
 use Rattle.std.proofs.Common.{◌≡◌, ℕ, ◌+◌, ◌-◌, ◌*◌, ◌/◌, ◌%◌, ◌^◌, ◌<◌, ◌≤◌, true, false, List, Ok, inl, mod-lt, refl, sym, ap, ◌∙◌, subst}
 use Rattle.std.proofs.Common.{arith}
 use Rattle.std.specs.Prelude.{ℤ, pos, ◌+ℤ◌, ◌-ℤ◌, int_le, int_lt, bytes_eq}
-use Rattle.std.proofs.lemmas.Bool.{false_from_ne_true}
-use Rattle.std.proofs.lemmas.Grind.{common_steps}
 use Rattle.std.proofs.lemmas.Int.{ints}
 use Rattle.std.proofs.lemmas.Nat.{div-add-mod'}
-use Rattle.std.proofs.lemmas.Slice.Eq.{bytes_eq-Decides}
-use Rattle.h41_decimal.specs.Holding.{Number, holding_of}
 use Rattle.h41_decimal.specs.Laws.{DecimalIsItsNearest, RegisterIsDetermined}
 use Rattle.h41_decimal.specs.NearestDecimal.{Nearest}
 use Rattle.h41_decimal.specs.Units.{one, units}
@@ -16,7 +12,7 @@ use Rattle.h41_decimal.specs.declared.ten.Ten.{Ten}
 use Rattle.h41_ram.specs.RegisterMap.{zeros}
 use Rattle.h41_rows.specs.Values.{IsRegisterOf}
 use Rattle.h41_reasoning_lines.proofs.Scales.{scaled}
-use Rattle.h41_reasoning_lines.proofs.Wholes.{IsRemainder, whole, zeros_register}
+use Rattle.h41_reasoning_lines.proofs.Wholes.{IsRemainder, is_zeros, le_fails, le_holds, lt_fails, lt_holds, not_zeros, whole}
 
 module _ (itself : DecimalIsItsNearest) where
   -- A number line of digits, after which the exponent is zero.
@@ -51,47 +47,26 @@ module _ (itself : DecimalIsItsNearest) where
 
 -- Comparisons.
 pub lt_true : (a b : ℕ) → a < b → int_lt (whole a) (whole b) ≡ true
-lt_true a b less = by (a * one) (b * one) (omega (arith, less))
-  where
-    by : (m n : ℕ) → m < n → int_lt (pos m) (pos n) ≡ true
-    by m n less = grind (arith, common_steps)
+lt_true a b less = lt_holds (a * one) (b * one) (omega (arith, less))
 
 pub lt_false : (a b : ℕ) → b ≤ a → int_lt (whole a) (whole b) ≡ false
-lt_false a b order = by (a * one) (b * one) (omega (arith, order))
-  where
-    by : (m n : ℕ) → n ≤ m → int_lt (pos m) (pos n) ≡ false
-    by m n order = grind (arith, common_steps)
+lt_false a b order = lt_fails (a * one) (b * one) (omega (arith, order))
 
 pub le_true : (a b : ℕ) → a ≤ b → int_le (whole a) (whole b) ≡ true
-le_true a b order = by (a * one) (b * one) (omega (arith, order))
-  where
-    by : (m n : ℕ) → m ≤ n → int_le (pos m) (pos n) ≡ true
-    by m n order = grind (arith, common_steps)
+le_true a b order = le_holds (a * one) (b * one) (omega (arith, order))
 
 pub le_false : (a b : ℕ) → b < a → int_le (whole a) (whole b) ≡ false
-le_false a b less = by (a * one) (b * one) (omega (arith, less))
-  where
-    by : (m n : ℕ) → n < m → int_le (pos m) (pos n) ≡ false
-    by m n less = grind (arith, common_steps)
+le_false a b less = le_fails (a * one) (b * one) (omega (arith, less))
 
 -- Whether a register contains zero.
 pub is_zero : RegisterIsDetermined → (register : List ℕ) (n : ℕ) → n ≤ 0 → IsRegisterOf (whole n) register
     → bytes_eq register zeros ≡ true
 is_zero determined register n none is =
     let nought : n ≡ 0 = omega (arith, none) in
-    let own : IsRegisterOf (whole 0) register = subst (λ (m : ℕ). IsRegisterOf (whole m) register) nought is in
-    (bytes_eq-Decides register zeros).1 (determined (whole 0) register zeros own.valid zeros_register own.holds refl)
-
-number_of : (a b : ℤ) → Number a ≡ Number b → a ≡ b
-number_of a b same = cc
+    is_zeros determined register (subst (λ (m : ℕ). IsRegisterOf (whole m) register) nought is)
 
 pub is_some : (register : List ℕ) (n : ℕ) → 0 < n → IsRegisterOf (whole n) register → bytes_eq register zeros ≡ false
-is_some register n some is =
-    false_from_ne_true (bytes_eq register zeros) (λ yes.
-    let same : register ≡ zeros = (bytes_eq-Decides register zeros).0 yes in
-    let number_is : whole n ≡ pos 0 = number_of (whole n) (pos 0) (sym is.holds ∙ ap holding_of same) in
-    let size_is : n * one ≡ 0 = omega (arith, ints, number_is) in
-    omega (arith, size_is, some))
+is_some register n some is = not_zeros n register some is.holds
 
 -- The integer part of a whole number is the number itself.
 pub whole_part : (n : ℕ) → IsIntegerPart (whole n) (whole n)

@@ -1,10 +1,11 @@
 -- Whole numbers of up to ten digits: their decimals, their remainders, and the register of zero.
 use Rattle.std.proofs.Common.{◌≡◌, ℕ, zero, suc, ◌+◌, ◌-◌, ◌*◌, ◌^◌, ◌<◌, ◌≤◌, ◌⊎◌, true, false, List, Result, Ok, ⊎_elim}
 use Rattle.std.proofs.Common.{inl, inr, refl, sym, ap, ◌∙◌, subst, arith}
-use Rattle.std.specs.Prelude.{not, ℤ, pos, negsuc, neg_ℤ, ◌*ℤ◌, ◌==◌, MatchBool, unsigned_abs}
-use Rattle.std.proofs.Math.IntN.{neg_ℤ-neg_ℤ, negsuc-*ℤ-pos, pos-*ℤ-pos}
+use Rattle.std.specs.Prelude.{int_le, int_lt, not, ℤ, pos, negsuc, neg_ℤ, ◌*ℤ◌, ◌==◌, MatchBool, unsigned_abs}
+use Rattle.std.proofs.Math.IntN.{negsuc-*ℤ-pos, pos-*ℤ-pos}
 use Rattle.std.specs.Str.{bytes_eq}
 use Rattle.std.proofs.lemmas.Bool.{cases_lt, false_from_ne_true}
+use Rattle.std.proofs.lemmas.Grind.{common_steps}
 use Rattle.std.proofs.lemmas.List.Elements.{All-replicate}
 use Rattle.std.proofs.lemmas.Slice.Eq.{bytes_eq-Decides}
 use Rattle.h41_decimal.specs.Holding.{Number, holding_of}
@@ -13,7 +14,7 @@ use Rattle.h41_decimal.specs.NearestDecimal.{Nearest}
 use Rattle.h41_decimal.specs.Operations.{NearestModulo, RoundsRest}
 use Rattle.h41_decimal.specs.Units.{one, size, units}
 use Rattle.h41_decimal.specs.declared.fault.DecimalFault.{DecimalFault}
-use Rattle.h41_decimal.specs.declared.sign.Sign.TheVariants.{Minus, Plus}
+use Rattle.h41_decimal.specs.declared.sign.Sign.TheVariants.{Plus}
 use Rattle.h41_decimal.specs.declared.ten.Ten.{Ten}
 use Rattle.h41_decimal.specs.declared.ten.Ten.TheVariants.{Zero, Nonzero}
 use Rattle.h41_decimal.proofs.Floors.{rest_of_same}
@@ -22,10 +23,24 @@ use Rattle.h41_decimal.proofs.Wholes.{filled_worth}
 use Rattle.h41_digits.specs.Register.{IsRegister}
 use Rattle.h41_ram.specs.RegisterMap.{zeros}
 use Rattle.h41_rows.specs.Values.{IsRegisterOf}
+use Rattle.h41_reasoning_lines.proofs.SignedDecimals.{opposite}
 
 -- A whole number, in units.
 abbrev pub whole : ℕ → ℤ
 whole number = pos (number * one)
+
+-- Comparisons of numbers that are not negative.
+pub lt_holds : (a b : ℕ) → a < b → int_lt (pos a) (pos b) ≡ true
+lt_holds a b less = grind (arith, common_steps)
+
+pub lt_fails : (a b : ℕ) → b ≤ a → int_lt (pos a) (pos b) ≡ false
+lt_fails a b order = grind (arith, common_steps)
+
+pub le_holds : (a b : ℕ) → a ≤ b → int_le (pos a) (pos b) ≡ true
+le_holds a b order = grind (arith, common_steps)
+
+pub le_fails : (a b : ℕ) → b < a → int_le (pos a) (pos b) ≡ false
+le_fails a b less = grind (arith, common_steps)
 
 next_power : (number fuel : ℕ) → number * 10 ^ suc fuel ≡ number * 10 * 10 ^ fuel
 next_power number fuel =
@@ -79,18 +94,13 @@ ten_at (suc n) steps small enough bounded =
     )
 
 -- The same with a sign.
-opposite : (ten : Ten) (n : ℕ) → units ten ≡ pos n → (other : Ten) × (units other ≡ neg_ℤ (pos n))
-opposite Zero n is = (Zero, ap neg_ℤ is)
-opposite (Nonzero Plus x) n is = (Nonzero Minus x, ap neg_ℤ is)
-opposite (Nonzero Minus x) n is = (Nonzero Plus x, sym (neg_ℤ-neg_ℤ (pos (size x))) ∙ ap neg_ℤ is)
-
 pub signed_ten_at : (number : ℤ) (steps : ℕ) → unsigned_abs number < 10 ^ 10 → 9 ≤ steps → steps ≤ 198
     → (ten : Ten) × (units ten ≡ number *ℤ pos (10 ^ steps))
 signed_ten_at (pos n) steps small enough bounded =
     let ten = ten_at n steps small enough bounded in (ten.0, ten.1 ∙ sym (pos-*ℤ-pos n (10 ^ steps)))
 signed_ten_at (negsuc n) steps small enough bounded =
     let ten = ten_at (suc n) steps small enough bounded in
-    let other = opposite ten.0 (suc n * 10 ^ steps) ten.1 in (other.0, other.1 ∙ sym (negsuc-*ℤ-pos n (10 ^ steps)))
+    let other = opposite ten.0 in (other.0, other.1 ∙ ap neg_ℤ ten.1 ∙ sym (negsuc-*ℤ-pos n (10 ^ steps)))
 
 -- The decimal of a whole number.
 pub whole_ten : (number : ℕ) → number < 10 ^ 10 → (ten : Ten) × (units ten ≡ whole number)
@@ -151,19 +161,24 @@ zeros_register = record { size = refl; each = All-replicate (λ digit. digit < 1
 number_of_units : (a b : ℤ) → Number a ≡ Number b → a ≡ b
 number_of_units a b same = cc
 
--- X#0? answers whether a whole number is zero.
-pub tells_zero : RegisterIsDetermined → (register : List ℕ) → IsRegisterOf (whole 0) register → not (bytes_eq register zeros) ≡ false
-tells_zero determined register is =
-    ap not
-    ((bytes_eq-Decides register zeros).1
-    (determined (whole 0) register zeros is.valid zeros_register is.holds zeros_number))
+-- A register that contains a whole number is the register of zeros if the number is zero, and only then.
+pub is_zeros : RegisterIsDetermined → (register : List ℕ) → IsRegisterOf (whole 0) register → bytes_eq register zeros ≡ true
+is_zeros determined register is =
+    (bytes_eq-Decides register zeros).1 (determined (whole 0) register zeros is.valid zeros_register is.holds zeros_number)
 
-pub tells_some : (number : ℕ) (register : List ℕ) → 0 < number → holding_of register ≡ Number (whole number)
-    → not (bytes_eq register zeros) ≡ true
-tells_some number register some holds =
-    ap not
-    (false_from_ne_true (bytes_eq register zeros) (λ yes.
+pub not_zeros : (number : ℕ) (register : List ℕ) → 0 < number → holding_of register ≡ Number (whole number)
+    → bytes_eq register zeros ≡ false
+not_zeros number register some holds =
+    false_from_ne_true (bytes_eq register zeros) (λ yes.
     let same : register ≡ zeros = (bytes_eq-Decides register zeros).0 yes in
     let number_is : whole number ≡ pos 0 = number_of_units (whole number) (pos 0) (sym holds ∙ ap holding_of same ∙ zeros_number) in
     let size_is : number * one ≡ 0 = ap unsigned_abs number_is in
-    omega (arith, size_is, some)))
+    omega (arith, size_is, some))
+
+-- X#0? answers whether a whole number is zero.
+pub tells_zero : RegisterIsDetermined → (register : List ℕ) → IsRegisterOf (whole 0) register → not (bytes_eq register zeros) ≡ false
+tells_zero determined register is = ap not (is_zeros determined register is)
+
+pub tells_some : (number : ℕ) (register : List ℕ) → 0 < number → holding_of register ≡ Number (whole number)
+    → not (bytes_eq register zeros) ≡ true
+tells_some number register some holds = ap not (not_zeros number register some holds)

@@ -11,8 +11,6 @@ use Rattle.h41_commands.specs.declared.refusal.LineRefusal.{LineRefusal}
 use Rattle.h41_commands.specs.private.ItemReading.{is_unended}
 use Rattle.h41_commands.proofs.ParsedCommands.{never_unended}
 use Rattle.std.proofs.lemmas.Result.{err_from_is_err_and}
-use Rattle.h41_commands.specs.declared.fault.ItemFault.TheVariants as faults
-use Rattle.h41_commands.proofs.ReadFaults.{told, untold}
 use Rattle.h41_commands.proofs.reading.read_block.Goals as goal
 use Rattle.h41_commands.proofs.reading.read_block.Goals.{in-Ok, in-Err+in-Words-1, in-Err+in-Image-1, in-Err+in-Source-1, in-Err+in-Bytes-1}
 use Rattle.h41_commands.proofs.reading.read_block.Goals.{in-Err+in-Text-1, in-Err+in-Nothing-1}
@@ -111,49 +109,22 @@ returns-clause-open g c =
     let shut : is_unended c.block_command-command.result ≡ false = ap is_unended c.block_command-command.ensures ∙ never_unended _ in
     search rules
 
-pub returns-in_err-block-clause-bound : goal.returns-in_err-block-clause-bound
-returns-in_err-block-clause-bound g c =
-    rw (err_from_is_err_and c.from_residual.result c.from_residual.ensures.1).1 tt
-
-pub returns-in_err-block-clause-stopped : goal.returns-in_err-block-clause-stopped
-returns-in_err-block-clause-stopped g c =
-    λ is. c.in_err-block.ensures.stopped
-    (told c.from_residual.result c.in_err-block.field-0.0 faults.ReadFault c.from_residual.ensures.1 is)
-
-pub returns-in_err-block-clause-cause : goal.returns-in_err-block-clause-cause
-returns-in_err-block-clause-cause g c =
-    λ is. c.in_err-block.ensures.cause (told c.from_residual.result c.in_err-block.field-0.0 faults.ReadFault c.from_residual.ensures.1 is)
-
-pub returns-in_err-block-clause-flushed : goal.returns-in_err-block-clause-flushed
-returns-in_err-block-clause-flushed g c =
-    λ is. c.in_err-block.ensures.flushed
-    (told c.from_residual.result c.in_err-block.field-0.0 faults.ReadFault c.from_residual.ensures.1 is)
-
-pub returns-in_err-block-clause-kept : goal.returns-in_err-block-clause-kept
-returns-in_err-block-clause-kept g c =
-    c.read_lines.ensures.kept
-
-pub returns-in_err-block-clause-counted : goal.returns-in_err-block-clause-counted
-returns-in_err-block-clause-counted g c =
-    c.in_err-block.ensures.counted
-
-pub returns-in_err-block-clause-heard : goal.returns-in_err-block-clause-heard
-returns-in_err-block-clause-heard g c =
+pub returns-in_err-block : goal.returns-in_err-block
+returns-in_err-block g c =
     let failed = err_from_is_err_and c.from_residual.result c.from_residual.ensures.1 in
-    let taken = c.in_err-block.ensures.heard in
-    rw failed.1 (record { lines = taken.lines; hears = taken.hears; spelled = taken.taken })
-
-pub returns-in_err-block-clause-reader : goal.returns-in_err-block-clause-reader
-returns-in_err-block-clause-reader g c =
-    λ not. c.in_err-block.ensures.reader
-    (untold c.from_residual.result c.in_err-block.field-0.0 faults.ReadFault c.from_residual.ensures.1 not)
-
-pub returns-in_err-block-clause-writer : goal.returns-in_err-block-clause-writer
-returns-in_err-block-clause-writer g c =
-    λ not. c.in_err-block.ensures.writer
-    (untold c.from_residual.result c.in_err-block.field-0.0 faults.WriteFault c.from_residual.ensures.1 not)
-
-pub returns-in_err-block-clause-write_fault : goal.returns-in_err-block-clause-write_fault
-returns-in_err-block-clause-write_fault g c =
-    λ is. c.in_err-block.ensures.write_fault
-    (told c.from_residual.result c.in_err-block.field-0.0 faults.WriteFault c.from_residual.ensures.1 is)
+    let fault = c.in_err-block.ensures in
+    rw (failed.1, failed.2)
+    (record {
+      item = record { lines = fault.block.lines; reads = fault.block.reads; spelled = fault.block.taken };
+      heard = record { lines = fault.heard.lines; hears = fault.heard.hears; spelled = fault.heard.taken };
+      bound = tt;
+      «open» = tt;
+      stopped = λ is. fault.stopped cc;
+      cause = λ is. fault.cause cc;
+      flushed = λ is. fault.flushed cc;
+      kept = fault.kept;
+      counted = fault.counted;
+      reader = λ not. fault.reader (λ is. not cc);
+      writer = λ not. fault.writer (λ is. not cc);
+      write_fault = λ is. fault.write_fault cc;
+    })

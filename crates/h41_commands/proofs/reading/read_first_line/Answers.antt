@@ -8,8 +8,6 @@ use Rattle.h41_commands.proofs.HeardItems.{hears_skipped}
 use Rattle.h41_commands.specs.FirstLines.{first_line}
 use Rattle.h41_commands.proofs.FirstLines.{skips_line}
 use Rattle.h41_commands.proofs.NameEnds.{told_kind, told_none}
-use Rattle.h41_ends.specs.declared.fault.LineReadFault.TheVariants as line
-use Rattle.h41_commands.proofs.ReadFaults.{told, untold}
 use Rattle.h41_commands.proofs.reading.read_first_line.Goals as goal
 
 pub loop-input-init : goal.loop-input-init
@@ -27,16 +25,39 @@ loop-input-init g c = record {
   );
 }
 
-pub returns-in_err-next_line-clause-line : goal.returns-in_err-next_line-clause-line
-returns-in_err-next_line-clause-line g c =
+pub returns-in_err-next_line : goal.returns-in_err-next_line
+returns-in_err-next_line g c =
     let so_far = c.loop-input.invariant.lines in
+    let heard = c.loop-input.invariant.heard in
     let failed = err_from_is_err_and c.from_residual.result c.from_residual.ensures.1 in
-    rw failed.1
+    let fault = c.in_err-next_line.ensures in
+    rw (failed.1, failed.2)
     (record {
-      skipped = so_far.0;
-      nothing = so_far.1;
-      reads = reads_both _ _ _ c.args.input.now c.loop-input.input c.next_line.new.self _ _ so_far.2 c.in_err-next_line.ensures.lines;
-      kind = tt;
+      line = record {
+        skipped = so_far.0;
+        nothing = so_far.1;
+        reads = reads_both _ _ _ c.args.input.now c.loop-input.input c.next_line.new.self _ _ so_far.2 fault.lines;
+        kind = tt;
+      };
+      heard = record {
+        skipped = heard.0;
+        nothing = heard.1;
+        hears = hears_skipped _ _ _ _ _ c.args.input.now c.loop-input.input c.next_line.new.self _ _ c.loop-input.invariant.kept heard.1
+            heard.2 fault.heard;
+        kind = tt;
+      };
+      first = tt;
+      shorter = tt;
+      fewer = tt;
+      end = λ is. cc;
+      stopped = λ is. fault.stopped cc;
+      cause = λ is. fault.cause cc;
+      flushed = λ is. fault.flushed cc;
+      kept = keeps-both _ _ _ c.loop-input.invariant.kept fault.kept;
+      counted = counts_both c.args.input.now c.loop-input.input c.next_line.new.self _ _ _ c.loop-input.invariant.counted fault.counted;
+      reader = λ not. fault.reader (λ is. not cc);
+      writer = λ not. fault.writer (λ is. not cc);
+      write_fault = λ is. fault.write_fault cc;
     })
 
 pub returns-in-Some-clause-line : goal.returns-in-Some-clause-line
@@ -91,70 +112,6 @@ returns-clause-line g c =
       reads = reads_both _ _ _ c.args.input.now c.loop-input.input c.next_line.new.self _ _ so_far.2 next;
       kind = tt;
     }
-
-pub returns-in_err-next_line-clause-first : goal.returns-in_err-next_line-clause-first
-returns-in_err-next_line-clause-first g c =
-    rw (err_from_is_err_and c.from_residual.result c.from_residual.ensures.1).1 tt
-
-pub returns-in_err-next_line-clause-shorter : goal.returns-in_err-next_line-clause-shorter
-returns-in_err-next_line-clause-shorter g c =
-    rw (err_from_is_err_and c.from_residual.result c.from_residual.ensures.1).1 tt
-
-pub returns-in_err-next_line-clause-fewer : goal.returns-in_err-next_line-clause-fewer
-returns-in_err-next_line-clause-fewer g c =
-    rw (err_from_is_err_and c.from_residual.result c.from_residual.ensures.1).1 tt
-
-pub returns-in_err-next_line-clause-stopped : goal.returns-in_err-next_line-clause-stopped
-returns-in_err-next_line-clause-stopped g c =
-    λ is. c.in_err-next_line.ensures.stopped
-    (told c.from_residual.result c.in_err-next_line.field-0.0 line.ReadFault c.from_residual.ensures.1 is)
-
-pub returns-in_err-next_line-clause-cause : goal.returns-in_err-next_line-clause-cause
-returns-in_err-next_line-clause-cause g c =
-    λ is. c.in_err-next_line.ensures.cause
-    (told c.from_residual.result c.in_err-next_line.field-0.0 line.ReadFault c.from_residual.ensures.1 is)
-
-pub returns-in_err-next_line-clause-flushed : goal.returns-in_err-next_line-clause-flushed
-returns-in_err-next_line-clause-flushed g c =
-    λ is. c.in_err-next_line.ensures.flushed
-    (told c.from_residual.result c.in_err-next_line.field-0.0 line.ReadFault c.from_residual.ensures.1 is)
-
-pub returns-in_err-next_line-clause-kept : goal.returns-in_err-next_line-clause-kept
-returns-in_err-next_line-clause-kept g c =
-    keeps-both _ _ _ c.loop-input.invariant.kept c.in_err-next_line.ensures.kept
-
-pub returns-in_err-next_line-clause-counted : goal.returns-in_err-next_line-clause-counted
-returns-in_err-next_line-clause-counted g c =
-    counts_both c.args.input.now c.loop-input.input c.next_line.new.self _ _ _ c.loop-input.invariant.counted
-    c.in_err-next_line.ensures.counted
-
-pub returns-in_err-next_line-clause-reader : goal.returns-in_err-next_line-clause-reader
-returns-in_err-next_line-clause-reader g c =
-    λ not. c.in_err-next_line.ensures.reader
-    (untold c.from_residual.result c.in_err-next_line.field-0.0 line.ReadFault c.from_residual.ensures.1 not)
-
-pub returns-in_err-next_line-clause-writer : goal.returns-in_err-next_line-clause-writer
-returns-in_err-next_line-clause-writer g c =
-    λ not. c.in_err-next_line.ensures.writer
-    (untold c.from_residual.result c.in_err-next_line.field-0.0 line.WriteFault c.from_residual.ensures.1 not)
-
-pub returns-in_err-next_line-clause-write_fault : goal.returns-in_err-next_line-clause-write_fault
-returns-in_err-next_line-clause-write_fault g c =
-    λ is. c.in_err-next_line.ensures.write_fault
-    (told c.from_residual.result c.in_err-next_line.field-0.0 line.WriteFault c.from_residual.ensures.1 is)
-
-pub returns-in_err-next_line-clause-heard : goal.returns-in_err-next_line-clause-heard
-returns-in_err-next_line-clause-heard g c =
-    let heard = c.loop-input.invariant.heard in
-    let failed = err_from_is_err_and c.from_residual.result c.from_residual.ensures.1 in
-    rw failed.1
-    (record {
-      skipped = heard.0;
-      nothing = heard.1;
-      hears = hears_skipped _ _ _ _ _ c.args.input.now c.loop-input.input c.next_line.new.self _ _ c.loop-input.invariant.kept heard.1
-          heard.2 c.in_err-next_line.ensures.heard;
-      kind = tt;
-    })
 
 pub returns-in-Some-clause-heard : goal.returns-in-Some-clause-heard
 returns-in-Some-clause-heard g c =

@@ -7,7 +7,6 @@ use Rattle.h41_ends.proofs.InputReading.{counts_both, keeps-both, keeps-known, n
 use Rattle.h41_commands.proofs.HeardItems.{hears_inside}
 use Rattle.h41_commands.specs.DeckLines.{is_end}
 use Rattle.h41_commands.proofs.ItemLines.{endless_more, endless_still, takes_more}
-use Rattle.h41_ends.specs.declared.fault.LineReadFault.TheVariants as line
 use Rattle.h41_commands.proofs.ReadFaults.{told_of_line, untold_of_line}
 use Rattle.h41_commands.proofs.reading.read_lines.Goals as goal
 
@@ -27,15 +26,35 @@ loop-block-init g c = record {
   );
 }
 
-pub returns-in_err-next_line-clause-block : goal.returns-in_err-next_line-clause-block
-returns-in_err-next_line-clause-block g c =
+pub returns-in_err-next_line : goal.returns-in_err-next_line
+returns-in_err-next_line g c =
     let so_far = c.loop-block.invariant.lines in
+    let heard = c.loop-block.invariant.heard in
     let failed = err_from_is_err_and c.from_residual.result c.from_residual.ensures.1 in
-    rw failed.1
+    let fault = c.in_err-next_line.ensures in
+    rw (failed.1, failed.2)
     (record {
-      lines = so_far.0 ++ [];
-      reads = reads_both _ _ _ c.args.input.now c.loop-block.input c.next_line.new.self _ _ so_far.3 c.in_err-next_line.ensures.lines;
-      taken = endless_still so_far.0 so_far.1;
+      block = record {
+        lines = so_far.0 ++ [];
+        reads = reads_both _ _ _ c.args.input.now c.loop-block.input c.next_line.new.self _ _ so_far.3 fault.lines;
+        taken = endless_still so_far.0 so_far.1;
+      };
+      heard = record {
+        lines = heard.0 ++ [];
+        hears = hears_inside _ _ _ _ _ c.args.input.now c.loop-block.input c.next_line.new.self _ _ c.loop-block.invariant.kept heard.1
+            heard.3 fault.heard;
+        taken = endless_still heard.0 heard.1;
+      };
+      bound = tt;
+      end = λ is. cc;
+      stopped = λ is. fault.stopped (told_of_line _ _ is);
+      cause = λ is. fault.cause (told_of_line _ _ is);
+      flushed = λ is. fault.flushed (told_of_line _ _ is);
+      kept = keeps-both _ _ _ c.loop-block.invariant.kept fault.kept;
+      counted = counts_both c.args.input.now c.loop-block.input c.next_line.new.self _ _ _ c.loop-block.invariant.counted fault.counted;
+      reader = λ not. fault.reader (untold_of_line _ _ not);
+      writer = λ not. fault.writer (untold_of_line _ _ not);
+      write_fault = λ is. fault.write_fault (told_of_line _ _ is);
     })
 
 pub returns-then-is_end-clause-block : goal.returns-then-is_end-clause-block
@@ -108,18 +127,6 @@ returns-clause-block g c =
       taken = endless_still so_far.0 so_far.1;
     }
 
-pub returns-in_err-next_line-clause-heard : goal.returns-in_err-next_line-clause-heard
-returns-in_err-next_line-clause-heard g c =
-    let heard = c.loop-block.invariant.heard in
-    let failed = err_from_is_err_and c.from_residual.result c.from_residual.ensures.1 in
-    rw failed.1
-    (record {
-      lines = heard.0 ++ [];
-      hears = hears_inside _ _ _ _ _ c.args.input.now c.loop-block.input c.next_line.new.self _ _ c.loop-block.invariant.kept heard.1
-          heard.3 c.in_err-next_line.ensures.heard;
-      taken = endless_still heard.0 heard.1;
-    })
-
 pub returns-then-is_end-clause-heard : goal.returns-then-is_end-clause-heard
 returns-then-is_end-clause-heard g c =
     let heard = c.loop-block.invariant.heard in
@@ -181,46 +188,3 @@ returns-clause-counted g c =
 
 pub returns-clause-bound : goal.returns-clause-bound
 returns-clause-bound g c = omega (arith, c.loop-block.invariant.bound, c.in_ok-next_line.ensures.bound)
-
-pub returns-in_err-next_line-clause-bound : goal.returns-in_err-next_line-clause-bound
-returns-in_err-next_line-clause-bound g c =
-    rw (err_from_is_err_and c.from_residual.result c.from_residual.ensures.1).1 tt
-
-pub returns-in_err-next_line-clause-stopped : goal.returns-in_err-next_line-clause-stopped
-returns-in_err-next_line-clause-stopped g c =
-    λ is. c.in_err-next_line.ensures.stopped
-    (told_of_line c.from_residual.result c.in_err-next_line.field-0.0 line.ReadFault c.from_residual.ensures.1 is)
-
-pub returns-in_err-next_line-clause-cause : goal.returns-in_err-next_line-clause-cause
-returns-in_err-next_line-clause-cause g c =
-    λ is. c.in_err-next_line.ensures.cause
-    (told_of_line c.from_residual.result c.in_err-next_line.field-0.0 line.ReadFault c.from_residual.ensures.1 is)
-
-pub returns-in_err-next_line-clause-flushed : goal.returns-in_err-next_line-clause-flushed
-returns-in_err-next_line-clause-flushed g c =
-    λ is. c.in_err-next_line.ensures.flushed
-    (told_of_line c.from_residual.result c.in_err-next_line.field-0.0 line.ReadFault c.from_residual.ensures.1 is)
-
-pub returns-in_err-next_line-clause-kept : goal.returns-in_err-next_line-clause-kept
-returns-in_err-next_line-clause-kept g c =
-    keeps-both _ _ _ c.loop-block.invariant.kept c.in_err-next_line.ensures.kept
-
-pub returns-in_err-next_line-clause-counted : goal.returns-in_err-next_line-clause-counted
-returns-in_err-next_line-clause-counted g c =
-    counts_both c.args.input.now c.loop-block.input c.next_line.new.self _ _ _ c.loop-block.invariant.counted
-    c.in_err-next_line.ensures.counted
-
-pub returns-in_err-next_line-clause-reader : goal.returns-in_err-next_line-clause-reader
-returns-in_err-next_line-clause-reader g c =
-    λ not. c.in_err-next_line.ensures.reader
-    (untold_of_line c.from_residual.result c.in_err-next_line.field-0.0 line.ReadFault c.from_residual.ensures.1 not)
-
-pub returns-in_err-next_line-clause-writer : goal.returns-in_err-next_line-clause-writer
-returns-in_err-next_line-clause-writer g c =
-    λ not. c.in_err-next_line.ensures.writer
-    (untold_of_line c.from_residual.result c.in_err-next_line.field-0.0 line.WriteFault c.from_residual.ensures.1 not)
-
-pub returns-in_err-next_line-clause-write_fault : goal.returns-in_err-next_line-clause-write_fault
-returns-in_err-next_line-clause-write_fault g c =
-    λ is. c.in_err-next_line.ensures.write_fault
-    (told_of_line c.from_residual.result c.in_err-next_line.field-0.0 line.WriteFault c.from_residual.ensures.1 is)

@@ -1,5 +1,5 @@
 -- The digits, rounded at their scale, are the nearest decimal of the exact value.
-use Rattle.std.proofs.Common.{◌+◌, ◌-◌, ◌<◌, ◌≤◌, refl, arith, Ok, Err}
+use Rattle.std.proofs.Common.{◌+◌, ◌-◌, ◌<◌, refl, arith, Ok, Err}
 use Rattle.h41_decimal.proofs.Entries.{typed_nearest, typed_zero}
 use Rattle.h41_decimal.proofs.entry.typed.Goals as goal
 
@@ -8,8 +8,7 @@ returns-then-digits-eq0 c = typed_zero c.args.sign c.args.digits c.args.places c
 
 pub returns-in-Ok : goal.returns-in-Ok
 returns-in-Ok c =
-    let some : 0 < c.args.digits = (let h = c.if-digits-eq0.false in omega arith) in
-    let few : c.args.places ≤ 20 = c.requires in
+    let some : 0 < c.args.digits = omega (arith, c.if-digits-eq0.false) in
     record {
       answer = Ok c.in-Ok.number;
       nearest =
@@ -21,8 +20,7 @@ returns-in-Ok c =
 
 pub returns-in-Err : goal.returns-in-Err
 returns-in-Err c =
-    let some : 0 < c.args.digits = (let h = c.if-digits-eq0.false in omega arith) in
-    let few : c.args.places ≤ 20 = c.requires in
+    let some : 0 < c.args.digits = omega (arith, c.if-digits-eq0.false) in
     record {
       answer = Err c.in-Err.field-0;
       nearest =

@@ -1,11 +1,11 @@
-use Rattle.std.proofs.Common.{◌≡◌, ℕ, ◌+◌, ◌-◌, ◌*◌, ◌/◌, ◌%◌, ◌^◌, ◌<◌, ◌≤◌, ap, ◌∙◌, sym, subst, arith}
+use Rattle.std.proofs.Common.{◌≡◌, ℕ, ◌+◌, ◌-◌, ◌*◌, ◌^◌, ◌<◌, ap, sym, subst, arith}
 use Rattle.std.proofs.Math.Nat.{mul-pos, zero-mul}
 use Rattle.h41_decimal.specs.Signs.{with_sign}
 use Rattle.h41_decimal.specs.Units.{size}
 use Rattle.h41_decimal.proofs.Nearest.{ten_pow_pos}
 use Rattle.h41_decimal.proofs.Signed.{signed-sub}
 use Rattle.h41_decimal.proofs.Tens.{size_pos, lower_exponent, nearest_along}
-use Rattle.h41_decimal.proofs.Floors.{rest_of_apart, rest_of_apart_none, sizes_divide, rest_rounds_at}
+use Rattle.h41_decimal.proofs.Floors.{divided, quotient, rest_of_apart, rest_of_apart_none, rest_rounds_at}
 use Rattle.h41_decimal.specs.NearestDecimal.{Nearest}
 use Rattle.h41_decimal.proofs.modulo.rest_apart.Goals as goal
 
@@ -24,16 +24,9 @@ pub returns-then-rest-eq0 : goal.returns-then-rest-eq0
 returns-then-rest-eq0 c =
     let x = c.args.x in
     let y = c.args.y in
-    let m = x.mantissa.digits in
-    let n = y.mantissa.digits in
-    let s = x.exponent.biased in
-    let t = y.exponent.biased in
-    let m_size : 10 ^ 9 ≤ m = x.mantissa.at_least in
-    let r : c.remainder-rest.result ≡ n * 10 ^ (t - s) % m = cc in
-    let d = sizes_divide n m t s c.remainder-rest.result (omega arith) (omega arith) r in
-    let none : c.remainder-rest.result * 10 ^ s ≡ 0 = ap (λ k. k * 10 ^ s) c.if-rest-eq0.true ∙ zero-mul (10 ^ s) in
-    let e : size y ≡ (n * 10 ^ (t - s) / m) * size x + c.remainder-rest.result * 10 ^ s = d.0 in
-    rest_of_apart_none c.args.sign (size y) (size x) (n * 10 ^ (t - s) / m) (omega arith) (size_pos y) (size_pos x)
+    let d = divided y x c.remainder-rest.result (omega arith) (cc) in
+    let none : c.remainder-rest.result * 10 ^ x.exponent.biased ≡ 0 = rw c.if-rest-eq0.true (zero-mul (10 ^ x.exponent.biased)) in
+    rest_of_apart_none c.args.sign (size y) (size x) (quotient y x) (omega (arith, d.0, none)) (size_pos y) (size_pos x)
 
 -- The difference between the divisor and the remainder.
 lacking : (m k r p : ℕ) → k + r ≡ m → k * p ≡ m * p - r * p
@@ -44,19 +37,12 @@ returns c =
     let x = c.args.x in
     let y = c.args.y in
     let m = x.mantissa.digits in
-    let n = y.mantissa.digits in
     let s = x.exponent.biased in
-    let t = y.exponent.biased in
-    let m_size : 10 ^ 9 ≤ m = x.mantissa.at_least in
-    let r : c.remainder-rest.result ≡ n * 10 ^ (t - s) % m = cc in
-    let d = sizes_divide n m t s c.remainder-rest.result (omega arith) (omega arith) r in
+    let r = c.remainder-rest.result in
+    let d = divided y x r (omega arith) (cc) in
     let least = c.if-rest-eq0.false in
-    let some : 0 < c.remainder-rest.result = omega arith in
-    let less : c.remainder-rest.result < m = d.1 in
-    let k : (m - c.remainder-rest.result) + c.remainder-rest.result ≡ m = omega arith in
-    let l = lacking m (m - c.remainder-rest.result) c.remainder-rest.result (10 ^ s) k in
-    let k_pos : 0 < m - c.remainder-rest.result = omega arith in
+    let some : 0 < r = omega arith in
+    let l = lacking m (m - r) r (10 ^ s) (omega (arith, d.1)) in
     let P : ℕ → Type 0 = λ u. Nearest (with_sign c.args.sign u) 1 c.round_whole.result in
-    rest_of_apart c.args.sign (size y) (size x) (n * 10 ^ (t - s) / m)
-    (c.remainder-rest.result * 10 ^ s) _ d.0 (mul-pos some (ten_pow_pos s)) d.2
-    (subst P l (rest_rounds_at c.args.sign (m - c.remainder-rest.result) s _ _ k_pos (omega arith) c.round_whole.ensures))
+    rest_of_apart c.args.sign (size y) (size x) (quotient y x) (r * 10 ^ s) _ d.0 (mul-pos some (ten_pow_pos s)) d.2
+    (subst P l (rest_rounds_at c.args.sign (m - r) s _ _ (omega (arith, d.1)) (omega arith) c.round_whole.ensures))

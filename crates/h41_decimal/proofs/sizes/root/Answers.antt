@@ -10,11 +10,6 @@ eleven_digit_root-root-requires-clause-at_least c =
     let x = c.args.x.mantissa in
     (filled_digits x.digits c.steps-steps.result c.power_of_ten.result x.at_least x.below c.power_of_ten.ensures).0
 
-pub eleven_digit_root-root-requires-clause-below : goal.eleven_digit_root-root-requires-clause-below
-eleven_digit_root-root-requires-clause-below c =
-    let x = c.args.x.mantissa in
-    (filled_digits x.digits c.steps-steps.result c.power_of_ten.result x.at_least x.below c.power_of_ten.ensures).1
-
 pub returns : goal.returns
 returns c =
     let x = c.args.x in

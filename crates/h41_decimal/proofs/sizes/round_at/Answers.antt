@@ -1,4 +1,4 @@
-use Rattle.std.proofs.Common.{◌≡◌, ◌+◌, ◌-◌, ◌/◌, ◌^◌, arith}
+use Rattle.std.proofs.Common.{◌+◌, ◌-◌, ◌/◌, arith, refl}
 use Rattle.h41_decimal.proofs.Nearest.{ten_pow_pos}
 use Rattle.h41_decimal.proofs.Steps.{whole_rounds, tiny_rounds, quotient_rounds_to_zero, quotient_rounds_to_steps}
 use Rattle.h41_decimal.proofs.sizes.round_at.Goals as goal
@@ -14,19 +14,13 @@ nonzero_div-steps-2 c = let h = ten_pow_pos (c.args.place - c.steps-2.result) in
 
 pub returns-then-steps-eq0 : goal.returns-then-steps-eq0
 returns-then-steps-eq0 c =
-    let p : c.power_of_ten-step.result ≡ 10 ^ (c.args.place - c.args.x.exponent.biased) = cc in
-    let k : (c.args.x.mantissa.digits + c.power_of_ten-step.result / 2) / c.power_of_ten-step.result
-    ≡ (c.args.x.mantissa.digits + c.power_of_ten-step.result / 2) / c.power_of_ten-step.result =
-    cc in
-    quotient_rounds_to_zero c.args.sign c.args.x c.args.place (c.args.place - c.args.x.exponent.biased) c.power_of_ten-step.result _
-    (omega arith) (omega arith) p k c.if-steps-eq0.true
+    let step = c.power_of_ten-step.result in
+    quotient_rounds_to_zero c.args.sign c.args.x c.args.place (c.args.place - c.args.x.exponent.biased) step
+    ((c.args.x.mantissa.digits + step / 2) / step) (omega arith) (omega arith) (cc) refl c.if-steps-eq0.true
 
 pub returns : goal.returns
 returns c =
-    let p : c.power_of_ten-step.result ≡ 10 ^ (c.args.place - c.args.x.exponent.biased) = cc in
-    let k : (c.args.x.mantissa.digits + c.power_of_ten-step.result / 2) / c.power_of_ten-step.result
-    ≡ (c.args.x.mantissa.digits + c.power_of_ten-step.result / 2) / c.power_of_ten-step.result =
-    cc in
     let some = c.if-steps-eq0.false in
-    quotient_rounds_to_steps c.args.sign c.args.x c.args.place (c.args.place - c.args.x.exponent.biased) c.power_of_ten-step.result _ _
-    (omega arith) (omega arith) p k (omega arith) c.round_whole.ensures
+    let step = c.power_of_ten-step.result in
+    quotient_rounds_to_steps c.args.sign c.args.x c.args.place (c.args.place - c.args.x.exponent.biased) step
+    ((c.args.x.mantissa.digits + step / 2) / step) _ (omega arith) (omega arith) (cc) refl (omega arith) c.round_whole.ensures

@@ -18,31 +18,28 @@ pub returns-then-large-small : goal.returns-then-large-small
 returns-then-large-small c =
     let x = c.args.x in
     let y = c.args.y in
-    let w : x.mantissa.digits * c.power_of_ten.result ≡ x.mantissa.digits * 10 ^ (x.exponent.biased - y.exponent.biased) = cc in
     difference_above c.args.sign _ x.mantissa.digits y.mantissa.digits x.exponent.biased y.exponent.biased
-    (x.exponent.biased - y.exponent.biased) (x.mantissa.digits * c.power_of_ten.result) y.mantissa.digits _ (omega arith) w
+    (x.exponent.biased - y.exponent.biased) (x.mantissa.digits * c.power_of_ten.result) y.mantissa.digits _ (omega arith) (cc)
     refl (omega arith) c.if-large-small.true c.round_whole.ensures
 
 pub returns-then-large-small-2 : goal.returns-then-large-small-2
 returns-then-large-small-2 c =
     let x = c.args.x in
     let y = c.args.y in
-    let w : x.mantissa.digits * c.power_of_ten.result ≡ x.mantissa.digits * 10 ^ (x.exponent.biased - y.exponent.biased) = cc in
     let P : Sign → Type 0 =
     λ sign. RoundsWhole sign (y.mantissa.digits - x.mantissa.digits * c.power_of_ten.result)
     (c.steps-scale.result + 128) c.round_whole-then-large-small-2.result in
     difference_below c.args.sign _ x.mantissa.digits y.mantissa.digits x.exponent.biased y.exponent.biased
     (x.exponent.biased - y.exponent.biased) (x.mantissa.digits * c.power_of_ten.result)
-    y.mantissa.digits (c.steps-scale.result + 128) (omega arith) w
+    y.mantissa.digits (c.steps-scale.result + 128) (omega arith) (cc)
     refl (omega arith) c.if-large-small-2.true (subst P c.opposite.ensures c.round_whole-then-large-small-2.ensures)
 
 pub returns-else-large-small-2 : goal.returns-else-large-small-2
 returns-else-large-small-2 c =
     let x = c.args.x in
     let y = c.args.y in
-    let w : x.mantissa.digits * c.power_of_ten.result ≡ x.mantissa.digits * 10 ^ (x.exponent.biased - y.exponent.biased) = cc in
     difference_none c.args.sign _ x.mantissa.digits y.mantissa.digits x.exponent.biased y.exponent.biased
-    (x.exponent.biased - y.exponent.biased) (x.mantissa.digits * c.power_of_ten.result) y.mantissa.digits (omega arith) w
+    (x.exponent.biased - y.exponent.biased) (x.mantissa.digits * c.power_of_ten.result) y.mantissa.digits (omega arith) (cc)
     refl (omega arith) refl
 
 pub returns-else-apart-le-COUNTED : goal.returns-else-apart-le-COUNTED

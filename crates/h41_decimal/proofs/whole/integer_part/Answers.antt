@@ -20,15 +20,6 @@ returns-then-steps-lt-LEAST c =
     integer_of c.args.sign (size x) 0 _ (size_pos x) (ones_below x.mantissa.digits x.exponent.biased x.mantissa.below (omega arith))
     (sym (signed-zero c.args.sign 0 refl))
 
-pub overflow_mul-mantissa : goal.overflow_mul-mantissa
-overflow_mul-mantissa c =
-    let x = c.args.x in
-    let k = 108 - c.steps-steps.result in
-    let h =
-    whole_digits x.mantissa.digits x.exponent.biased k c.power_of_ten.result c.without_last.result c.power_of_ten.ensures
-    c.without_last.ensures (omega arith) (omega arith) x.mantissa.at_least x.mantissa.below in
-    omega (arith, h.1)
-
 pub invariant_of-mantissa : goal.invariant_of-mantissa
 invariant_of-mantissa c =
     let x = c.args.x in

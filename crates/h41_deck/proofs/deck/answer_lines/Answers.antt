@@ -72,36 +72,27 @@ loop-first-preserved-then-opens_block g c =
     let so_far = c.loop-first.invariant.done in
     let first = rw c.in-Some.is at c.in_ok-first.ensures.line in
     let fewer = rw c.in-Some.is at c.in_ok-first.ensures.fewer in
-    let next = block_next _ _ _ c.loop-first.input c.read_first_line.new.input c.read_block.new.input c.in-Some.first.kind
-    (sym c.if-opens_block.ensures) first c.in_ok-item.item c.in_ok-item.ensures.item in
-    let told = told_kept _ _ _ so_far.0 c.loop-first.bench.state c.loop-first.outcome
-    (told_kept _ _ _ so_far.0 c.loop-first.bench.state c.loop-first.outcome so_far.2 c.in_ok-first.ensures.kept)
-    c.in_ok-item.ensures.kept in
+    let next = block_next _ _ _ _ _ _ _ (sym c.if-opens_block.ensures) first c.in_ok-item.item c.in_ok-item.ensures.item in
+    let told = told_kept _ _ _ _ _ _ (told_kept _ _ _ _ _ _ so_far.2 c.in_ok-first.ensures.kept) c.in_ok-item.ensures.kept in
     let heard = c.loop-first.invariant.heard in
-    let heard_next = block_heard _ _ _ _ _ c.loop-first.input c.read_first_line.new.input c.read_block.new.input c.in-Some.first.kind
+    let heard_next = block_heard _ _ _ _ _ _ _ _ _
     c.in_ok-first.ensures.kept (sym c.if-opens_block.ensures) (rw c.in-Some.is at c.in_ok-first.ensures.heard) c.in_ok-item.item
     c.in_ok-item.ensures.heard in
     record {
       done = (
         so_far.0 ++ what_is_spelled c.in_ok-item.item ∷ [],
-        read_item _ _ _ c.loop-first.input c.read_block.new.input so_far.0 so_far.1 (what_is_spelled c.in_ok-item.item) next
-            (below_most _ _ _ c.in_ok-item.ensures.bound fewer) c.in_ok-item.ensures.open,
-        rw c.and-outcome.ensures (told_more _ _ _ so_far.0 c.loop-first.bench.state c.answer.new.bench.state c.loop-first.outcome
-            c.in_ok-answered.answered (what_is_spelled c.in_ok-item.item) told c.in_ok-answered.ensures.reply),
+        read_item _ _ _ _ _ _ so_far.1 _ next (below_most _ _ _ c.in_ok-item.ensures.bound fewer) c.in_ok-item.ensures.open,
+        rw c.and-outcome.ensures (told_more _ _ _ _ _ _ _ _ _ told c.in_ok-answered.ensures.reply),
       );
       reader = c.in_ok-item.ensures.reader never_failed;
       writer = c.in_ok-answered.ensures.clear never_failed;
       counted = c.in_ok-item.ensures.counted _ (c.in_ok-first.ensures.counted _ c.loop-first.invariant.counted);
       heard = (
         heard.0 ++ what_is_spelled c.in_ok-item.item ∷ [],
-        heard_item _ _ _ _ _ c.loop-first.input c.read_block.new.input heard.0 c.loop-first.bench.state c.loop-first.outcome heard.1 heard.2
-            (what_is_spelled c.in_ok-item.item) heard_next (below_most _ _ _ c.in_ok-item.ensures.bound fewer) c.in_ok-item.ensures.open,
-        rw c.and-outcome.ensures (told_more _ _ _ heard.0 c.loop-first.bench.state c.answer.new.bench.state c.loop-first.outcome
-            c.in_ok-answered.answered (what_is_spelled c.in_ok-item.item)
-            (told_kept _ _ _ heard.0 c.loop-first.bench.state c.loop-first.outcome
-            (told_kept _ _ _ heard.0 c.loop-first.bench.state c.loop-first.outcome heard.2 c.in_ok-first.ensures.kept)
-            c.in_ok-item.ensures.kept)
-            c.in_ok-answered.ensures.reply),
+        heard_item _ _ _ _ _ _ _ _ _ _ heard.1 heard.2 _ heard_next
+            (below_most _ _ _ c.in_ok-item.ensures.bound fewer) c.in_ok-item.ensures.open,
+        rw c.and-outcome.ensures (told_more _ _ _ _ _ _ _ _ _ (told_kept _ _ _ _ _ _
+            (told_kept _ _ _ _ _ _ heard.2 c.in_ok-first.ensures.kept) c.in_ok-item.ensures.kept) c.in_ok-answered.ensures.reply),
       );
     }
 
@@ -111,215 +102,155 @@ loop-first-preserved g c =
     let first = rw c.in-Some.is at c.in_ok-first.ensures.line in
     let fewer = rw c.in-Some.is at c.in_ok-first.ensures.fewer in
     let line = line_in c.read_first_line.new.input in
-    let next = first_line _ _ c.loop-first.input c.read_first_line.new.input c.in-Some.first.kind first (sym c.if-opens_block.ensures) in
-    let told = told_kept _ _ _ so_far.0 c.loop-first.bench.state c.loop-first.outcome so_far.2 c.in_ok-first.ensures.kept in
+    let next = first_line _ _ _ _ _ first (sym c.if-opens_block.ensures) in
+    let told = told_kept _ _ _ _ _ _ so_far.2 c.in_ok-first.ensures.kept in
     let heard = c.loop-first.invariant.heard in
-    let heard_next = heard_line _ _ _ c.loop-first.input c.read_first_line.new.input c.in-Some.first.kind
-    (rw c.in-Some.is at c.in_ok-first.ensures.heard) (sym c.if-opens_block.ensures) in
+    let heard_next = heard_line _ _ _ _ _ _ (rw c.in-Some.is at c.in_ok-first.ensures.heard) (sym c.if-opens_block.ensures) in
     record {
       done = (
         so_far.0 ++ line_spelled line ∷ [],
-        read_item _ _ _ c.loop-first.input c.read_first_line.new.input so_far.0 so_far.1 (line_spelled line) next fewer
-            (λ unended. absurd (false≢true (sym (shut_line line) ∙ unended))),
-        rw c.and-outcome-in-Some.ensures (told_more _ _ _ so_far.0 c.loop-first.bench.state c.answer_line.new.bench.state
-            c.loop-first.outcome
-            c.in_ok-next.next (line_spelled line) told (rw c.line.ensures at c.in_ok-next.ensures.reply)),
+        read_item _ _ _ _ _ _ so_far.1 _ next fewer (λ unended. absurd (false≢true (sym (shut_line line) ∙ unended))),
+        rw c.and-outcome-in-Some.ensures (told_more _ _ _ _ _ _ _ _ _ told (rw c.line.ensures at c.in_ok-next.ensures.reply)),
       );
       reader = c.in_ok-first.ensures.reader never_failed;
       writer = c.in_ok-next.ensures.clear never_failed;
       counted = c.in_ok-first.ensures.counted _ c.loop-first.invariant.counted;
       heard = (
         heard.0 ++ line_spelled line ∷ [],
-        heard_item _ _ _ _ _ c.loop-first.input c.read_first_line.new.input heard.0 c.loop-first.bench.state c.loop-first.outcome
-            heard.1 heard.2 (line_spelled line) heard_next fewer (λ unended. absurd (false≢true (sym (shut_line line) ∙ unended))),
-        rw c.and-outcome-in-Some.ensures (told_more _ _ _ heard.0 c.loop-first.bench.state c.answer_line.new.bench.state
-            c.loop-first.outcome c.in_ok-next.next (line_spelled line)
-            (told_kept _ _ _ heard.0 c.loop-first.bench.state c.loop-first.outcome heard.2 c.in_ok-first.ensures.kept)
+        heard_item _ _ _ _ _ _ _ _ _ _ heard.1 heard.2 _ heard_next fewer (λ unended. absurd (false≢true (sym (shut_line line) ∙ unended))),
+        rw c.and-outcome-in-Some.ensures (told_more _ _ _ _ _ _ _ _ _ (told_kept _ _ _ _ _ _ heard.2 c.in_ok-first.ensures.kept)
             (rw c.line.ensures at c.in_ok-next.ensures.reply)),
       );
     }
 
-pub returns-clause-lines : goal.returns-clause-lines
-returns-clause-lines g c =
+-- At each read, exactly the complete commands were answered, and at most one byte beyond the limit is read.
+pub returns : goal.returns
+returns g c =
     let so_far = c.loop-first.invariant.done in
     let next = first_none _ _ _ _ (rw c.in_default.is at c.in_ok-first.ensures.line) in
     let end = rw c.in_default.is at c.in_ok-first.ensures.end in
-    let whole = whole_done _ _ _ c.loop-first.input c.read_first_line.new.input so_far.0 so_far.1 next (end refl) in
-    let told = told_kept _ _ _ so_far.0 c.loop-first.bench.state c.loop-first.outcome so_far.2 c.in_ok-first.ensures.kept in
-    ended g.row.REGS g.R.Source g.W.Sink c.args.reader.now c.read_first_line.new.reader c.args.writer.now c.flush.new.writer
-    c.loop-first.outcome
-    (deck_written _ _ _ _ so_far.0 c.loop-first.bench.state c.loop-first.outcome whole
-    (told_kept _ _ _ so_far.0 c.loop-first.bench.state c.loop-first.outcome told c.in_ok-flush.ensures.bytes))
-    (deck_ended _ _ _ _ so_far.0 c.loop-first.bench.state c.loop-first.outcome whole so_far.2) c.in_ok-flush.ensures.flushed
-    (c.in_ok-first.ensures.reader never_failed) c.in_ok-flush.ensures.clear
+    let whole = whole_done _ _ _ _ _ _ so_far.1 next (end refl) in
+    let told = told_kept _ _ _ _ _ _ so_far.2 c.in_ok-first.ensures.kept in
+    let heard = c.loop-first.invariant.heard in
+    let heard_next = heard_none _ _ _ _ _ (rw c.in_default.is at c.in_ok-first.ensures.heard) in
+    record {
+      lines = ended g.row.REGS g.R.Source g.W.Sink _ _ _ _ _ (deck_written _ _ _ _ _ _ _ whole
+          (told_kept _ _ _ _ _ _ told c.in_ok-flush.ensures.bytes)) (deck_ended _ _ _ _ _ _ _ whole so_far.2) c.in_ok-flush.ensures.flushed
+          (c.in_ok-first.ensures.reader never_failed) c.in_ok-flush.ensures.clear;
+      turns = turns_end _ _ _ _ _ _ _ _ _ _ heard.1 heard.2 _ heard_next.hears;
+      bound = gives_within c.read_first_line.new.input _ _ (c.in_ok-first.ensures.counted _ c.loop-first.invariant.counted);
+    }
 
-pub returns-in_err-first-clause-lines : goal.returns-in_err-first-clause-lines
-returns-in_err-first-clause-lines g c =
+pub returns-in_err-first : goal.returns-in_err-first
+returns-in_err-first g c =
     let so_far = c.loop-first.invariant.done in
     let from = err_from_is_err_and c.from_residual.result c.from_residual.ensures.1 in
     let fault = c.in_err-first.ensures in
-    told_fault g.row.REGS g.R.Source g.W.Sink _ _ _ _ _ _ _ from.1 from.2
-    (failed_first g.row.REGS g.R.Source g.W.Sink c.args.reader.now c.read_first_line.new.reader c.args.writer.now
-    c.read_first_line.new.writer c.in_err-first.field-0.0
-    (leaves_first g.row.REGS g.R.Source g.W.Sink c.args.reader.now c.loop-first.reader c.read_first_line.new.reader c.args.writer.now
-    c.loop-first.writer c.read_first_line.new.writer c.loop-first.input c.read_first_line.new.input so_far.0 c.loop-first.bench.state
-    c.loop-first.outcome c.in_err-first.field-0.0 so_far.1 so_far.2 fault.line fault.kept
-    (λ is. fault.stopped (ap (λ why. Err why) is)) (λ is. fault.cause (ap (λ why. Err why) is))
-    (fault.counted _ c.loop-first.invariant.counted))
-    (λ is. fault.flushed (ap (λ why. Err why) is)) (λ is. fault.write_fault (ap (λ why. Err why) is))
-    (λ other. fault.reader (λ is. other (same_fault _ refl is))) (λ other. fault.writer (λ is. other (same_fault _ refl is))))
+    let heard = c.loop-first.invariant.heard in
+    let heard_next = heard_fault _ _ _ _ _ c.in_err-first.field-0.0 c.in_err-first.ensures.heard in
+    record {
+      lines = told_fault g.row.REGS g.R.Source g.W.Sink _ _ _ _ _ _ _ from.1 from.2
+          (failed_first g.row.REGS g.R.Source g.W.Sink _ _ _ _ c.in_err-first.field-0.0
+          (leaves_first g.row.REGS g.R.Source g.W.Sink _ c.loop-first.reader _ _ c.loop-first.writer _ _ _ _ _ _ c.in_err-first.field-0.0
+          so_far.1 so_far.2 fault.line fault.kept
+          (λ is. fault.stopped (ap (λ why. Err why) is)) (λ is. fault.cause (ap (λ why. Err why) is))
+          (fault.counted _ c.loop-first.invariant.counted))
+          (λ is. fault.flushed (ap (λ why. Err why) is)) (λ is. fault.write_fault (ap (λ why. Err why) is))
+          (λ other. fault.reader (λ is. other (same_fault _ refl is))) (λ other. fault.writer (λ is. other (same_fault _ refl is))));
+      turns = turns_end _ _ _ _ _ _ _ _ _ _ heard.1 heard.2 _ heard_next.hears;
+      bound = gives_within c.read_first_line.new.input _ _ (c.in_err-first.ensures.counted _ c.loop-first.invariant.counted);
+    }
 
-pub returns-in_err-item-clause-lines : goal.returns-in_err-item-clause-lines
-returns-in_err-item-clause-lines g c =
+pub returns-in_err-item : goal.returns-in_err-item
+returns-in_err-item g c =
     let so_far = c.loop-first.invariant.done in
     let from = err_from_is_err_and c.from_residual-in_err-item.result c.from_residual-in_err-item.ensures.1 in
     let first = rw c.in-Some.is at c.in_ok-first.ensures.line in
-    let told = told_kept _ _ _ so_far.0 c.loop-first.bench.state c.loop-first.outcome so_far.2 c.in_ok-first.ensures.kept in
+    let told = told_kept _ _ _ _ _ _ so_far.2 c.in_ok-first.ensures.kept in
     let fault = c.in_err-item.ensures in
-    told_fault g.row.REGS g.R.Source g.W.Sink _ _ _ _ _ _ _ from.1 from.2
-    (failed_item g.row.REGS g.R.Source g.W.Sink c.args.reader.now c.read_block.new.reader c.args.writer.now c.read_block.new.writer
-    c.in_err-item.field-0.0
-    (leaves_item g.row.REGS g.R.Source g.W.Sink c.args.reader.now c.loop-first.reader c.read_block.new.reader c.args.writer.now
-    c.read_first_line.new.writer c.read_block.new.writer c.loop-first.input c.read_block.new.input so_far.0 c.loop-first.bench.state
-    c.loop-first.outcome c.in_err-item.field-0.0 so_far.1 told
-    (block_failed _ _ _ c.loop-first.input c.read_first_line.new.input c.read_block.new.input c.in-Some.first.kind
-    (sym c.if-opens_block.ensures) first c.in_err-item.field-0.0 fault.item) fault.kept
-    (λ is. fault.stopped (ap (λ why. Err why) is)) (λ is. fault.cause (ap (λ why. Err why) is))
-    (fault.counted _ (c.in_ok-first.ensures.counted _ c.loop-first.invariant.counted)))
-    (λ is. fault.flushed (ap (λ why. Err why) is)) (λ is. fault.write_fault (ap (λ why. Err why) is))
-    (λ other. fault.reader (λ is. other (same_fault _ refl is))) (λ other. fault.writer (λ is. other (same_fault _ refl is))))
+    let heard = c.loop-first.invariant.heard in
+    let heard_next = block_unheard _ _ _ _ _ _ _ _ _
+    c.in_ok-first.ensures.kept (sym c.if-opens_block.ensures) (rw c.in-Some.is at c.in_ok-first.ensures.heard) c.in_err-item.field-0.0
+    c.in_err-item.ensures.heard in
+    record {
+      lines = told_fault g.row.REGS g.R.Source g.W.Sink _ _ _ _ _ _ _ from.1 from.2
+          (failed_item g.row.REGS g.R.Source g.W.Sink _ _ _ _ c.in_err-item.field-0.0
+          (leaves_item g.row.REGS g.R.Source g.W.Sink _ c.loop-first.reader _ _ c.read_first_line.new.writer _ _ _ _ _ _
+          c.in_err-item.field-0.0 so_far.1 told
+          (block_failed _ _ _ _ _ _ _ (sym c.if-opens_block.ensures) first c.in_err-item.field-0.0 fault.item) fault.kept
+          (λ is. fault.stopped (ap (λ why. Err why) is)) (λ is. fault.cause (ap (λ why. Err why) is))
+          (fault.counted _ (c.in_ok-first.ensures.counted _ c.loop-first.invariant.counted)))
+          (λ is. fault.flushed (ap (λ why. Err why) is)) (λ is. fault.write_fault (ap (λ why. Err why) is))
+          (λ other. fault.reader (λ is. other (same_fault _ refl is))) (λ other. fault.writer (λ is. other (same_fault _ refl is))));
+      turns = turns_end _ _ _ _ _ _ _ _ _ _ heard.1 heard.2 _ heard_next.hears;
+      bound = gives_within c.read_block.new.input _ _
+          (c.in_err-item.ensures.counted _ (c.in_ok-first.ensures.counted _ c.loop-first.invariant.counted));
+    }
 
-pub returns-in_err-answered-clause-lines : goal.returns-in_err-answered-clause-lines
-returns-in_err-answered-clause-lines g c =
+pub returns-in_err-answered : goal.returns-in_err-answered
+returns-in_err-answered g c =
     let so_far = c.loop-first.invariant.done in
     let from = err_from_is_err_and c.from_residual-in_err-answered.result c.from_residual-in_err-answered.ensures.1 in
     let first = rw c.in-Some.is at c.in_ok-first.ensures.line in
     let fewer = rw c.in-Some.is at c.in_ok-first.ensures.fewer in
-    let next = block_next _ _ _ c.loop-first.input c.read_first_line.new.input c.read_block.new.input c.in-Some.first.kind
-    (sym c.if-opens_block.ensures) first c.in_ok-item.item c.in_ok-item.ensures.item in
-    let told = told_kept _ _ _ so_far.0 c.loop-first.bench.state c.loop-first.outcome
-    (told_kept _ _ _ so_far.0 c.loop-first.bench.state c.loop-first.outcome so_far.2 c.in_ok-first.ensures.kept)
-    c.in_ok-item.ensures.kept in
+    let next = block_next _ _ _ _ _ _ _ (sym c.if-opens_block.ensures) first c.in_ok-item.item c.in_ok-item.ensures.item in
+    let told = told_kept _ _ _ _ _ _ (told_kept _ _ _ _ _ _ so_far.2 c.in_ok-first.ensures.kept) c.in_ok-item.ensures.kept in
     let fault = c.in_err-answered.ensures in
-    told_fault g.row.REGS g.R.Source g.W.Sink _ _ _ _ _ _ _ from.1 from.2
-    (failed_answer g.row.REGS g.R.Source g.W.Sink c.args.reader.now c.read_block.new.reader c.args.writer.now c.answer.new.writer
-    c.in_err-answered.field-0.0
-    (leaves_answer g.row.REGS g.R.Source g.W.Sink c.args.reader.now c.read_block.new.reader c.args.writer.now c.read_block.new.writer
-    c.answer.new.writer c.read_block.new.input so_far.0 c.loop-first.bench.state c.answer.new.bench.state c.loop-first.outcome
-    (what_is_spelled c.in_ok-item.item) c.in_err-answered.field-0.0
-    (read_item _ _ _ c.loop-first.input c.read_block.new.input so_far.0 so_far.1 (what_is_spelled c.in_ok-item.item) next
-    (below_most _ _ _ c.in_ok-item.ensures.bound fewer) c.in_ok-item.ensures.open) told
-    fault.reply (λ is. fault.memory (ap (λ why. Err why) is)))
-    (c.in_ok-item.ensures.reader never_failed) (λ is. fault.mark (ap (λ why. Err why) is))
-    (λ other. fault.clear (λ is. other (same_fault _ refl is))))
+    let heard = c.loop-first.invariant.heard in
+    let heard_next = block_heard _ _ _ _ _ _ _ _ _
+    c.in_ok-first.ensures.kept (sym c.if-opens_block.ensures) (rw c.in-Some.is at c.in_ok-first.ensures.heard) c.in_ok-item.item
+    c.in_ok-item.ensures.heard in
+    record {
+      lines = told_fault g.row.REGS g.R.Source g.W.Sink _ _ _ _ _ _ _ from.1 from.2
+          (failed_answer g.row.REGS g.R.Source g.W.Sink _ _ _ _ c.in_err-answered.field-0.0
+          (leaves_answer g.row.REGS g.R.Source g.W.Sink _ _ _ c.read_block.new.writer _ _ _ _ _ _ _ c.in_err-answered.field-0.0
+          (read_item _ _ _ _ _ _ so_far.1 _ next (below_most _ _ _ c.in_ok-item.ensures.bound fewer) c.in_ok-item.ensures.open) told
+          fault.reply (λ is. fault.memory (ap (λ why. Err why) is)))
+          (c.in_ok-item.ensures.reader never_failed) (λ is. fault.mark (ap (λ why. Err why) is))
+          (λ other. fault.clear (λ is. other (same_fault _ refl is))));
+      turns = turns_end _ _ _ _ _ _ _ _ _ _ heard.1 heard.2 _ heard_next.hears;
+      bound = gives_within c.read_block.new.input _ _
+          (c.in_ok-item.ensures.counted _ (c.in_ok-first.ensures.counted _ c.loop-first.invariant.counted));
+    }
 
-pub returns-in_err-next-clause-lines : goal.returns-in_err-next-clause-lines
-returns-in_err-next-clause-lines g c =
+pub returns-in_err-next : goal.returns-in_err-next
+returns-in_err-next g c =
     let so_far = c.loop-first.invariant.done in
     let from = err_from_is_err_and c.from_residual-in_err-next.result c.from_residual-in_err-next.ensures.1 in
     let first = rw c.in-Some.is at c.in_ok-first.ensures.line in
     let fewer = rw c.in-Some.is at c.in_ok-first.ensures.fewer in
     let line = line_in c.read_first_line.new.input in
-    let next = first_line _ _ c.loop-first.input c.read_first_line.new.input c.in-Some.first.kind first (sym c.if-opens_block.ensures) in
-    let told = told_kept _ _ _ so_far.0 c.loop-first.bench.state c.loop-first.outcome so_far.2 c.in_ok-first.ensures.kept in
+    let next = first_line _ _ _ _ _ first (sym c.if-opens_block.ensures) in
+    let told = told_kept _ _ _ _ _ _ so_far.2 c.in_ok-first.ensures.kept in
     let fault = c.in_err-next.ensures in
-    told_fault g.row.REGS g.R.Source g.W.Sink _ _ _ _ _ _ _ from.1 from.2
-    (failed_answer g.row.REGS g.R.Source g.W.Sink c.args.reader.now c.read_first_line.new.reader c.args.writer.now
-    c.answer_line.new.writer c.in_err-next.field-0.0
-    (leaves_answer g.row.REGS g.R.Source g.W.Sink c.args.reader.now c.read_first_line.new.reader c.args.writer.now
-    c.read_first_line.new.writer c.answer_line.new.writer c.read_first_line.new.input so_far.0 c.loop-first.bench.state
-    c.answer_line.new.bench.state c.loop-first.outcome (line_spelled line) c.in_err-next.field-0.0
-    (read_item _ _ _ c.loop-first.input c.read_first_line.new.input so_far.0 so_far.1 (line_spelled line) next fewer
-    (λ unended. absurd (false≢true (sym (shut_line line) ∙ unended)))) told
-    (rw c.line.ensures at fault.reply) (λ is. rw c.line.ensures at fault.memory (ap (λ why. Err why) is)))
-    (c.in_ok-first.ensures.reader never_failed) (λ is. fault.mark (ap (λ why. Err why) is))
-    (λ other. fault.clear (λ is. other (same_fault _ refl is))))
+    let heard = c.loop-first.invariant.heard in
+    let heard_next = heard_line _ _ _ _ _ _ (rw c.in-Some.is at c.in_ok-first.ensures.heard) (sym c.if-opens_block.ensures) in
+    record {
+      lines = told_fault g.row.REGS g.R.Source g.W.Sink _ _ _ _ _ _ _ from.1 from.2
+          (failed_answer g.row.REGS g.R.Source g.W.Sink _ _ _ _ c.in_err-next.field-0.0
+          (leaves_answer g.row.REGS g.R.Source g.W.Sink _ _ _ c.read_first_line.new.writer _ _ _ _ _ _ _ c.in_err-next.field-0.0
+          (read_item _ _ _ _ _ _ so_far.1 _ next fewer (λ unended. absurd (false≢true (sym (shut_line line) ∙ unended)))) told
+          (rw c.line.ensures at fault.reply) (λ is. rw c.line.ensures at fault.memory (ap (λ why. Err why) is)))
+          (c.in_ok-first.ensures.reader never_failed) (λ is. fault.mark (ap (λ why. Err why) is))
+          (λ other. fault.clear (λ is. other (same_fault _ refl is))));
+      turns = turns_end _ _ _ _ _ _ _ _ _ _ heard.1 heard.2 _ heard_next.hears;
+      bound = gives_within c.read_first_line.new.input _ _ (c.in_ok-first.ensures.counted _ c.loop-first.invariant.counted);
+    }
 
-pub returns-in_err-flush-clause-lines : goal.returns-in_err-flush-clause-lines
-returns-in_err-flush-clause-lines g c =
+pub returns-in_err-flush : goal.returns-in_err-flush
+returns-in_err-flush g c =
     let so_far = c.loop-first.invariant.done in
     let from = err_from_is_err_and c.from_residual-in_err-flush.result c.from_residual-in_err-flush.ensures.1 in
     let next = first_none _ _ _ _ (rw c.in_default.is at c.in_ok-first.ensures.line) in
     let end = rw c.in_default.is at c.in_ok-first.ensures.end in
-    let whole = whole_done _ _ _ c.loop-first.input c.read_first_line.new.input so_far.0 so_far.1 next (end refl) in
-    let told = told_kept _ _ _ so_far.0 c.loop-first.bench.state c.loop-first.outcome so_far.2 c.in_ok-first.ensures.kept in
-    told_fault g.row.REGS g.R.Source g.W.Sink _ _ _ _ _ _ _ from.1 from.2
-    (failed_write g.row.REGS g.R.Source g.W.Sink c.args.reader.now c.read_first_line.new.reader c.args.writer.now c.flush.new.writer
-    (leaves_whole g.row.REGS g.R.Source g.W.Sink c.args.reader.now c.read_first_line.new.reader c.args.writer.now
-    c.read_first_line.new.writer c.flush.new.writer so_far.0 c.loop-first.bench.state c.loop-first.outcome whole told c.flush.ensures.bytes)
-    c.in_err-flush.ensures.mark (c.in_ok-first.ensures.reader never_failed))
-
--- At each read, exactly the complete commands were answered.
-pub returns-clause-turns : goal.returns-clause-turns
-returns-clause-turns g c =
+    let whole = whole_done _ _ _ _ _ _ so_far.1 next (end refl) in
+    let told = told_kept _ _ _ _ _ _ so_far.2 c.in_ok-first.ensures.kept in
     let heard = c.loop-first.invariant.heard in
-    let next = heard_none _ _ _ _ _ (rw c.in_default.is at c.in_ok-first.ensures.heard) in
-    turns_end _ _ _ _ _ c.loop-first.input c.read_first_line.new.input heard.0 c.loop-first.bench.state c.loop-first.outcome heard.1 heard.2
-    next.lines next.hears
-
-pub returns-in_err-first-clause-turns : goal.returns-in_err-first-clause-turns
-returns-in_err-first-clause-turns g c =
-    let heard = c.loop-first.invariant.heard in
-    let next = heard_fault _ _ _ _ _ c.in_err-first.field-0.0 c.in_err-first.ensures.heard in
-    turns_end _ _ _ _ _ c.loop-first.input c.read_first_line.new.input heard.0 c.loop-first.bench.state c.loop-first.outcome heard.1 heard.2
-    next.lines next.hears
-
-pub returns-in_err-item-clause-turns : goal.returns-in_err-item-clause-turns
-returns-in_err-item-clause-turns g c =
-    let heard = c.loop-first.invariant.heard in
-    let next = block_unheard _ _ _ _ _ c.loop-first.input c.read_first_line.new.input c.read_block.new.input c.in-Some.first.kind
-    c.in_ok-first.ensures.kept (sym c.if-opens_block.ensures) (rw c.in-Some.is at c.in_ok-first.ensures.heard) c.in_err-item.field-0.0
-    c.in_err-item.ensures.heard in
-    turns_end _ _ _ _ _ c.loop-first.input c.read_block.new.input heard.0 c.loop-first.bench.state c.loop-first.outcome heard.1 heard.2
-    next.lines next.hears
-
-pub returns-in_err-answered-clause-turns : goal.returns-in_err-answered-clause-turns
-returns-in_err-answered-clause-turns g c =
-    let heard = c.loop-first.invariant.heard in
-    let next = block_heard _ _ _ _ _ c.loop-first.input c.read_first_line.new.input c.read_block.new.input c.in-Some.first.kind
-    c.in_ok-first.ensures.kept (sym c.if-opens_block.ensures) (rw c.in-Some.is at c.in_ok-first.ensures.heard) c.in_ok-item.item
-    c.in_ok-item.ensures.heard in
-    turns_end _ _ _ _ _ c.loop-first.input c.read_block.new.input heard.0 c.loop-first.bench.state c.loop-first.outcome heard.1 heard.2
-    next.lines next.hears
-
-pub returns-in_err-next-clause-turns : goal.returns-in_err-next-clause-turns
-returns-in_err-next-clause-turns g c =
-    let heard = c.loop-first.invariant.heard in
-    let next = heard_line _ _ _ c.loop-first.input c.read_first_line.new.input c.in-Some.first.kind
-    (rw c.in-Some.is at c.in_ok-first.ensures.heard) (sym c.if-opens_block.ensures) in
-    turns_end _ _ _ _ _ c.loop-first.input c.read_first_line.new.input heard.0 c.loop-first.bench.state c.loop-first.outcome heard.1 heard.2
-    next.lines next.hears
-
-pub returns-in_err-flush-clause-turns : goal.returns-in_err-flush-clause-turns
-returns-in_err-flush-clause-turns g c =
-    let heard = c.loop-first.invariant.heard in
-    let next = heard_none _ _ _ _ _ (rw c.in_default.is at c.in_ok-first.ensures.heard) in
-    turns_end _ _ _ _ _ c.loop-first.input c.read_first_line.new.input heard.0 c.loop-first.bench.state c.loop-first.outcome heard.1 heard.2
-    next.lines next.hears
-
--- At most one byte beyond the limit is read.
-pub returns-clause-bound : goal.returns-clause-bound
-returns-clause-bound g c =
-    gives_within c.read_first_line.new.input _ _ (c.in_ok-first.ensures.counted _ c.loop-first.invariant.counted)
-
-pub returns-in_err-first-clause-bound : goal.returns-in_err-first-clause-bound
-returns-in_err-first-clause-bound g c =
-    gives_within c.read_first_line.new.input _ _ (c.in_err-first.ensures.counted _ c.loop-first.invariant.counted)
-
-pub returns-in_err-item-clause-bound : goal.returns-in_err-item-clause-bound
-returns-in_err-item-clause-bound g c =
-    gives_within c.read_block.new.input _ _
-    (c.in_err-item.ensures.counted _ (c.in_ok-first.ensures.counted _ c.loop-first.invariant.counted))
-
-pub returns-in_err-answered-clause-bound : goal.returns-in_err-answered-clause-bound
-returns-in_err-answered-clause-bound g c =
-    gives_within c.read_block.new.input _ _
-    (c.in_ok-item.ensures.counted _ (c.in_ok-first.ensures.counted _ c.loop-first.invariant.counted))
-
-pub returns-in_err-next-clause-bound : goal.returns-in_err-next-clause-bound
-returns-in_err-next-clause-bound g c =
-    gives_within c.read_first_line.new.input _ _ (c.in_ok-first.ensures.counted _ c.loop-first.invariant.counted)
-
-pub returns-in_err-flush-clause-bound : goal.returns-in_err-flush-clause-bound
-returns-in_err-flush-clause-bound g c =
-    gives_within c.read_first_line.new.input _ _ (c.in_ok-first.ensures.counted _ c.loop-first.invariant.counted)
+    let heard_next = heard_none _ _ _ _ _ (rw c.in_default.is at c.in_ok-first.ensures.heard) in
+    record {
+      lines = told_fault g.row.REGS g.R.Source g.W.Sink _ _ _ _ _ _ _ from.1 from.2 (failed_write g.row.REGS g.R.Source g.W.Sink _ _ _ _
+          (leaves_whole g.row.REGS g.R.Source g.W.Sink _ _ _ c.read_first_line.new.writer _ _ _ _ whole told c.flush.ensures.bytes)
+          c.in_err-flush.ensures.mark (c.in_ok-first.ensures.reader never_failed));
+      turns = turns_end _ _ _ _ _ _ _ _ _ _ heard.1 heard.2 _ heard_next.hears;
+      bound = gives_within c.read_first_line.new.input _ _ (c.in_ok-first.ensures.counted _ c.loop-first.invariant.counted);
+    }

@@ -1,4 +1,4 @@
-use Rattle.std.proofs.Common.{◌≡◌, refl, sym, ◌∙◌, ap, Ok, Err, rules}
+use Rattle.std.proofs.Common.{◌≡◌, refl, sym, ◌∙◌, ap, Ok, Err}
 use Rattle.std.proofs.lemmas.Result.{err_from_is_err_and}
 use Rattle.h41_program.specs.Edits.{without_answer}
 use Rattle.h41_program.specs.private.EditSteps.{lines_of_change}
@@ -42,50 +42,7 @@ returns-clause-lines g c =
     c.write.new.ram.registers c.in_ok-packed_changed.field-0 c.write.result (Ok tt) c.in_ok-packed_changed.was c.write.ensures.lines
     c.in_ok-write.was
 
-pub returns-in_err-write-clause-sound : goal.returns-in_err-write-clause-sound
-returns-in_err-write-clause-sound g c =
-    edit_sound c.args.ram.now.registers c.write.new.ram.registers (lines_of_change c.args.change) c.args.at
-    (without_answer c.from_residual-in_err-write.result) c.requires.sound (returns-in_err-write-clause-lines g c)
-
 pub returns-clause-sound : goal.returns-clause-sound
 returns-clause-sound g c =
     edit_sound c.args.ram.now.registers c.write.new.ram.registers (lines_of_change c.args.change) c.args.at (Ok tt) c.requires.sound
     (returns-clause-lines g c)
-
-pub returns-in_default-clause-sound : goal.returns-in_default-clause-sound
-returns-in_default-clause-sound g c = c.requires.sound
-
-pub returns-in_err-packed_changed-clause-sound : goal.returns-in_err-packed_changed-clause-sound
-returns-in_err-packed_changed-clause-sound g c = c.requires.sound
-
-pub lines_before-count-requires : goal.lines_before-count-requires
-lines_before-count-requires g c = (search rules, c.requires.sound)
-
-pub packed_changed-requires : goal.packed_changed-requires
-packed_changed-requires g c = (search rules, (c.requires.sound, c.requires.change))
-
-pub write-requires : goal.write-requires
-write-requires g c = (search rules, c.requires.sound)
-
-pub returns-in_err-write-clause-unchanged : goal.returns-in_err-write-clause-unchanged
-returns-in_err-write-clause-unchanged g c =
-    let p = err_from_is_err_and c.from_residual-in_err-write.result c.from_residual-in_err-write.ensures.1 in
-    rw p.1 c.in_err-write.ensures.unchanged
-
-pub returns-in_err-write-clause-mark : goal.returns-in_err-write-clause-mark
-returns-in_err-write-clause-mark g c = c.write.ensures.mark
-
-pub returns-clause-count : goal.returns-clause-count
-returns-clause-count g c =
-    let lines = c.packed_changed.ensures.0 in
-    let from = c.packed_changed.ensures.1 in
-    record {
-      first = c.in-Some.found.listed;
-      lines = lines;
-      stands = c.in-Some.ensures.first.first;
-      from = from;
-      is = c.lines_before-count.ensures lines from;
-    }
-
-pub returns-clause-mark : goal.returns-clause-mark
-returns-clause-mark g c = c.write.ensures.mark

@@ -4,11 +4,8 @@ use Rattle.std.proofs.lemmas.Option.{slice_get_past}
 use Rattle.h41_program.specs.declared.listed_line.ListedLine.{ListedLine}
 use Rattle.h41_program.specs.ProgramBytes.{program_bytes, final_position}
 use Rattle.h41_program.proofs.EditPlaces.{get_behind}
-use Rattle.h41_program.proofs.Walks.{up_to_none, up_to_more, ends_none, goes_on, ends_final}
+use Rattle.h41_program.proofs.Walks.{up_to_more, ends_none, goes_on, ends_final}
 use Rattle.h41_program.proofs.editing.line_behind.Goals as goal
-
-pub loop-found-init : goal.loop-found-init
-loop-found-init g c = ([], up_to_none (program_bytes c.args.ram.now.registers) (final_position c.args.ram.now.registers) 0, omega arith)
 
 pub returns-then-left-eq0-clause-line : goal.returns-then-left-eq0-clause-line
 returns-then-left-eq0-clause-line g c lines from =

@@ -1,24 +1,9 @@
-use Rattle.std.proofs.Common.{[], ◌∷◌, ◌++◌, ◌+◌, ℕ, refl, sym, ◌∙◌, ap, arith}
+use Rattle.std.proofs.Common.{[], ◌∷◌, ◌++◌, ◌+◌, ℕ, sym, ◌∙◌, ap, arith}
 use Rattle.h41_program.specs.Edits.{count_before}
 use Rattle.h41_program.specs.ProgramBytes.{program_bytes, final_position}
 use Rattle.h41_program.proofs.EditPlaces.{count_more, count_stops}
-use Rattle.h41_program.proofs.Walks.{up_to_none, up_to_more, ends_none, ends_final}
+use Rattle.h41_program.proofs.Walks.{up_to_more, ends_none, ends_final}
 use Rattle.h41_program.proofs.editing.lines_before.Goals as goal
-
-pub loop-found-init : goal.loop-found-init
-loop-found-init g c = (
-  [],
-  up_to_none (program_bytes c.args.ram.now.registers) (final_position c.args.ram.now.registers) 0,
-  refl,
-  omega arith,
-)
-
-pub overflow_add-count : goal.overflow_add-count
-overflow_add-count g c =
-    let before = c.loop-found.invariant in
-    let onward = c.in-Some.ensures.first.onward in
-    let most = c.in-Some.ensures.behind in
-    omega (arith, before.3, onward, most)
 
 pub returns-then-listed-place : goal.returns-then-listed-place
 returns-then-listed-place g c lines from =

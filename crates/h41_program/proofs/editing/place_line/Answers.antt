@@ -1,5 +1,4 @@
 use Rattle.std.proofs.Common.{sym, ◌∙◌, ap}
-use Rattle.std.proofs.lemmas.Result.{err_from_is_err_and}
 use Rattle.h41_program.specs.declared.editing.Change.TheVariants.{Put}
 use Rattle.h41_program.specs.private.EditSteps.{lines_of_change, listed_of}
 use Rattle.h41_program.proofs.EditAnswers.{leaves_new, put_there, some_found, stands_new, stands_there}
@@ -42,8 +41,3 @@ returns-clause-stands g c =
     c.change_at.new.ram.registers (lines_of_change (Put c.args.line c.args.placement)) c.args.at
     c.in_ok-count.count c.args.line c.in_ok-count.ensures.sound left c.unwrap-new.result.listed
     (sym (ap listed_of c.unwrap-new.ensures) ∙ c.line_behind.ensures.line left.leaves.listed left.leaves.read)
-
-pub returns-in_err-count-clause-lines : goal.returns-in_err-count-clause-lines
-returns-in_err-count-clause-lines g c =
-    let edits = c.in_err-count.ensures.lines in
-    (edits.0, edits.1, let p = err_from_is_err_and c.from_residual.result c.from_residual.ensures.1 in rw (p.1, p.2) edits.2)

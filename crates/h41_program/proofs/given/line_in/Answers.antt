@@ -1,7 +1,6 @@
-use Rattle.std.proofs.Common.{subst, drop, length, arith}
+use Rattle.std.proofs.Common.{subst, drop, arith}
 use Rattle.h41_codes.specs.ByteGrammar.{AnswersLine}
 use Rattle.std.proofs.lemmas.List.{length-drop, take_all}
-use Rattle.h41_program.proofs.FirstLines.{first_inside}
 use Rattle.h41_program.proofs.Givens.{taken_first, taken_none}
 use Rattle.h41_program.proofs.given.line_in.Goals as goal
 
@@ -29,9 +28,3 @@ returns-in-Err-clause-none c =
     (omega (arith, length-drop c.nulls_end-position.result c.args.bytes.now)))
     c.decode.ensures.line)
     c.in-Err.field-0 c.in-Err.is
-
-pub returns-then-at-bytes-clause-none : goal.returns-then-at-bytes-clause-none
-returns-then-at-bytes-clause-none c first is =
-    let inside = first_inside c.args.bytes.now (length c.args.bytes.now) c.args.at first is in
-    let from = is.from in
-    omega (arith, c.if-at-bytes.true, inside, from)

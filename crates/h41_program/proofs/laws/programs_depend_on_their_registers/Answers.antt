@@ -1,9 +1,6 @@
 use Rattle.h41_program.proofs.Depends
 use Rattle.h41_program.proofs.laws.programs_depend_on_their_registers.Goals as goal
 
-pub returns-clause-sound : goal.returns-clause-sound
-returns-clause-sound c = Depends.soundness
-
 pub returns-clause-lists : goal.returns-clause-lists
 returns-clause-lists c = Depends.lists
 

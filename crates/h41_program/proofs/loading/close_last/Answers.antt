@@ -1,8 +1,7 @@
-use Rattle.std.proofs.Common.{◌≡◌, Ok, Err, refl, sym, ◌∙◌, rules}
-use Rattle.std.proofs.lemmas.Result.{err_from_is_err_and}
+use Rattle.std.proofs.Common.{Ok, Err, refl, sym, ◌∙◌}
 use Rattle.h41_program.specs.Edits.{before_end, with_last_end}
 use Rattle.h41_program.proofs.ClosedRead.{close_leaves}
-use Rattle.h41_program.proofs.Closings.{close_err, close_ok, close_sound, closed_none, closed_some, open_err, open_ok, open_test}
+use Rattle.h41_program.proofs.Closings.{close_ok, close_sound, closed_some, open_err, open_ok, open_test}
 use Rattle.h41_program.proofs.loading.close_last.Goals as goal
 
 pub returns-clause-lines : goal.returns-clause-lines
@@ -26,49 +25,6 @@ pub returns-clause-read : goal.returns-clause-read
 returns-clause-read g c =
     close_leaves c.changes_are_read.ensures.closed c.args.ram.now.registers c.write.new.ram.registers c.write.result
     (returns-clause-lines g c)
-
-pub returns-in_err-packer-clause-lines : goal.returns-in_err-packer-clause-lines
-returns-in_err-packer-clause-lines g c =
-    let packs = c.packed_program.ensures in
-    let err : c.from_residual.result ≡ Err c.in_err-packer.field-0.0 =
-    (let p = err_from_is_err_and c.from_residual.result c.from_residual.ensures.1 in rw (p.1, p.2) refl) in (
-      packs.0,
-      packs.1,
-      rw err
-          (close_err c.args.ram.now.registers (before_end packs.0) c.packed_program.result c.in_err-packer.field-0.0 packs.2
-          c.in_err-packer.was),
-    )
-
-pub returns-in_err-packer-clause-sound : goal.returns-in_err-packer-clause-sound
-returns-in_err-packer-clause-sound g c = c.requires
-
-pub returns-then-not-is_open-clause-lines : goal.returns-then-not-is_open-clause-lines
-returns-then-not-is_open-clause-lines g c =
-    let memory = c.args.ram.now.registers in
-    let packs = c.packed_program.ensures in
-    let packer = c.in_ok-packer.packer in (
-      packs.0,
-      packs.1,
-      close_ok memory memory (before_end packs.0) c.packed_program.result packer (Ok tt) packs.2 c.in_ok-packer.was
-          (λ lines held. closed_none memory lines
-          (sym (open_test packer lines c.is_open.result held c.is_open.ensures) ∙ c.if-not-is_open.true)),
-    )
-
-pub returns-then-not-is_open-clause-sound : goal.returns-then-not-is_open-clause-sound
-returns-then-not-is_open-clause-sound g c = c.requires
-
-pub returns-then-not-is_open-clause-read : goal.returns-then-not-is_open-clause-read
-returns-then-not-is_open-clause-read g c =
-    c.changes_are_read.ensures.closed c.args.ram.now.registers c.args.ram.now.registers (returns-then-not-is_open-clause-lines g c)
-
-pub write-requires : goal.write-requires
-write-requires g c = (search rules, c.requires)
-
-pub returns-clause-unchanged : goal.returns-clause-unchanged
-returns-clause-unchanged g c = c.write.ensures.unchanged
-
-pub returns-clause-mark : goal.returns-clause-mark
-returns-clause-mark g c = c.write.ensures.mark
 
 pub returns-in_err-packer-clause-marked : goal.returns-in_err-packer-clause-marked
 returns-in_err-packer-clause-marked g c =

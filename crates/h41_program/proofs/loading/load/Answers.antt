@@ -71,11 +71,6 @@ returns-clause-bound g c =
     (record { program = program.2; begun = c.in_ok-packer.was; closes = c.close.ensures; puts = given.2 })
     c.in_ok-put_loaded.was c.in_ok-write.was c.len-start.ensures.value c.write.ensures.small c.write.ensures.lines
 
-pub returns-in_err-write-clause-sound : goal.returns-in_err-write-clause-sound
-returns-in_err-write-clause-sound g c =
-    load_sound c.args.ram.now.registers c.write.new.ram.registers c.args.bytes.now
-    c.from_residual-in_err-write.result c.requires (returns-in_err-write-clause-lines g c)
-
 pub returns-clause-sound : goal.returns-clause-sound
 returns-clause-sound g c =
     load_sound c.args.ram.now.registers c.write.new.ram.registers c.args.bytes.now (Ok c.len-start.result) c.requires

@@ -1,4 +1,4 @@
-use Rattle.std.proofs.Common.{◌≡◌, sym, ◌∙◌, subst, refl, drop, ◌++◌, [], true, false, List, length, append_assoc}
+use Rattle.std.proofs.Common.{◌≡◌, sym, ◌∙◌, subst, refl, drop, ◌++◌, true, false, List, length, append_assoc}
 use Rattle.std.proofs.lemmas.List.{take_rest}
 use Rattle.std.specs.Prelude.{◌==◌}
 use Rattle.std.specs.List.{list_all}
@@ -6,12 +6,9 @@ use Rattle.h41_codes.specs.declared.line.Line.{Line}
 use Rattle.h41_program.specs.private.LoadSteps.{kept_option}
 use Rattle.h41_program.specs.Edits.{lines_of}
 use Rattle.h41_program.specs.private.Packers.{Packs}
-use Rattle.h41_program.proofs.Loads.{loaded_nothing, loaded_more, loaded_none, final_puts, but_last}
+use Rattle.h41_program.proofs.Loads.{loaded_more, loaded_none, final_puts, but_last}
 use Rattle.h41_program.proofs.Walks.{all_none}
 use Rattle.h41_program.proofs.loading.put_loaded.Goals as goal
-
-pub loop-taken-init : goal.loop-taken-init
-loop-taken-init c = ([], loaded_nothing c.args.bytes.now c.args.packer.now)
 
 pub loop-taken-preserved : goal.loop-taken-preserved
 loop-taken-preserved c =

@@ -1,5 +1,4 @@
-use Rattle.std.proofs.Common.{◌≡◌, ◌+◌, ◌-◌, map, min, ap, ◌∙◌, arith}
-use Rattle.std.specs.List.{range_with_len}
+use Rattle.std.proofs.Common.{◌≡◌, ◌+◌, ◌-◌, arith}
 use Rattle.std.proofs.lemmas.List.FromFn.{map-range_with_len_more}
 use Rattle.h41_program.specs.ProgramBytes.{program_byte}
 use Rattle.h41_program.proofs.reading.window.Goals as goal
@@ -18,8 +17,3 @@ loop-position-preserved g c =
       count = omega arith;
       reader = c.read.ensures.onward;
     }
-
-pub returns : goal.returns
-returns g c =
-    let size : c.loop-position.position - c.args.at ≡ min 18 (c.args.limit - c.args.at) = omega arith in
-    c.loop-position.invariant.items ∙ ap (λ n. map (program_byte c.args.ram.now.registers) (range_with_len c.args.at n)) size

@@ -1,4 +1,5 @@
-use Rattle.std.proofs.Common.{[], arith, refl, ◌∙◌}
+use Rattle.std.proofs.Common.{[], arith, refl, rules, ◌∙◌}
+use Rattle.std.proofs.lemmas.Grind.{common_steps}
 use Rattle.std.proofs.lemmas.Result.{err_from_is_err_and}
 use Rattle.h41_ends.proofs.Answered.{no_end, no_fault, no_more}
 use Rattle.h41_ends.specs.HeardLines.{AreNone}
@@ -7,19 +8,108 @@ use Rattle.h41_ends.proofs.InputReading.{counts_both, counts_same, keeps-both, k
 use Rattle.h41_ends.proofs.InputReading.{reads_both, reads_last, reads_line, reads_nothing}
 use Rattle.h41_ends.proofs.input_lines.InputLines.next_line.Goals as goal
 
-pub returns-in-Some-clause-lines : goal.returns-in-Some-clause-lines
-returns-in-Some-clause-lines g c =
-    reads_both _ _ _ c.args.self.now c.loop-end.self c.tell_ended.new.self _ _ c.loop-end.invariant.reads
-    (reads_line _ c.loop-end.self c.tell_ended.new.self c.in-Some.end (rw c.held.ensures at c.in-Some.ensures) c.tell_ended.ensures)
+pub returns-in-Some : goal.returns-in-Some
+returns-in-Some g c =
+    let old = c.args.self.now in
+    let mid = c.loop-end.self in
+    let new = c.tell_ended.new.self in
+    let so_far = c.loop-end.invariant in
+    let told = c.tell_ended.ensures in
+    let ends = rw c.held.ensures at c.in-Some.ensures in
+    record {
+      lines = reads_both _ _ _ old mid new _ _ so_far.reads (reads_line _ mid new c.in-Some.end ends told);
+      heard =
+          hears_on _ _ _ _ _ old mid new _ so_far.kept so_far.heard
+          (hears_still AreNone _ _ mid new _ (line_read mid new c.in-Some.end ends told) (λ end. told.same.at_end ∙ end));
+      end = λ is. absurd (no_end is);
+      bound = grind (arith, common_steps);
+      fewer = grind (arith, common_steps);
+      stopped = λ is. absurd (no_fault _ _ is);
+      cause = λ is. absurd (no_fault _ _ is);
+      flushed = λ is. absurd (no_fault _ _ is);
+      kept = so_far.kept;
+      counted = counts_both old mid new _ _ _ so_far.counted (counts_same mid new _ told.same.count told.same.over);
+      reader = λ other. so_far.reader;
+      writer = λ other. so_far.writer;
+      write_fault = λ is. absurd (no_fault _ _ is);
+    }
 
-pub returns-then-not-branch-clause-lines : goal.returns-then-not-branch-clause-lines
-returns-then-not-branch-clause-lines g c =
+pub returns-then-self : goal.returns-then-self
+returns-then-self g c =
+    let so_far = c.loop-end.invariant in
+    record {
+      lines = so_far.reads;
+      heard = so_far.heard;
+      end = grind (arith, common_steps);
+      bound = so_far.bound;
+      fewer = λ is. absurd (no_more is);
+      stopped = λ is. absurd (no_fault _ _ is);
+      cause = λ is. absurd (no_fault _ _ is);
+      flushed = λ is. absurd (no_fault _ _ is);
+      kept = so_far.kept;
+      counted = so_far.counted;
+      reader = λ other. so_far.reader;
+      writer = λ other. so_far.writer;
+      write_fault = λ is. absurd (no_fault _ _ is);
+    }
+
+pub returns-then-not-branch : goal.returns-then-not-branch
+returns-then-not-branch g c =
+    let old = c.args.self.now in
+    let mid = c.read_more.new.self in
+    let new = c.tell_last.new.self in
     let after = g.R.Source.remaining c.read_more.new.reader in
-    let no_more = rw c.if-not-branch.true at c.in_ok-read_more.ensures.end in
-    reads_both _ _ after c.args.self.now c.read_more.new.self c.tell_last.new.self _ _
-    (reads_both _ _ _ c.args.self.now c.loop-end.self c.read_more.new.self _ _ c.loop-end.invariant.reads c.in_ok-read_more.ensures.lines)
-    (reads_last after c.read_more.new.self c.tell_last.new.self c.tell_last.result c.in_ok-read_more.ensures.goes_on (no_more refl)
-    c.tell_last.ensures)
+    let so_far = c.loop-end.invariant in
+    let more = c.in_ok-read_more.ensures in
+    let told = c.tell_last.ensures in
+    let no_more = rw c.if-not-branch.true at more.end in
+    let end = no_more refl in
+    let kept = keeps-both _ _ _ so_far.kept more.kept in
+    record {
+      lines =
+          reads_both _ _ after old mid new _ _ (reads_both _ _ _ old c.loop-end.self mid _ _ so_far.reads more.lines)
+          (reads_last after mid new c.tell_last.result more.goes_on end told);
+      heard =
+          hears_on _ _ _ _ _ old mid new _ kept
+          (hears_on _ _ _ _ _ old c.loop-end.self mid [] so_far.kept so_far.heard more.heard)
+          (hears_still AreNone _ _ mid new _ (last_read mid new c.tell_last.result more.goes_on end.unended told) (λ is. told.at_end));
+      end = search rules;
+      bound = search rules;
+      fewer = search rules;
+      stopped = λ is. absurd (no_fault _ _ is);
+      cause = λ is. absurd (no_fault _ _ is);
+      flushed = λ is. absurd (no_fault _ _ is);
+      kept = kept;
+      counted =
+          counts_both old mid new _ _ _ (counts_both old c.loop-end.self mid _ _ _ so_far.counted more.counted)
+          (counts_same mid new _ told.count told.over);
+      reader = λ other. more.reader (λ is. no_fault _ _ is);
+      writer = λ other. more.writer (λ is. no_fault _ _ is);
+      write_fault = λ is. absurd (no_fault _ _ is);
+    }
+
+pub returns-in_err-read_more-clause-lines : goal.returns-in_err-read_more-clause-lines
+returns-in_err-read_more-clause-lines g c =
+    let failed = err_from_is_err_and c.from_residual.result c.from_residual.ensures.1 in
+    rw failed.1 (reads_both _ _ _ c.args.self.now c.loop-end.self c.read_more.new.self _ _ c.loop-end.invariant.reads
+    c.in_err-read_more.ensures.lines)
+
+pub returns-in_err-read_more-clause-heard : goal.returns-in_err-read_more-clause-heard
+returns-in_err-read_more-clause-heard g c =
+    let failed = err_from_is_err_and c.from_residual.result c.from_residual.ensures.1 in
+    rw failed.1 (hears_on _ _ _ _ _ c.args.self.now c.loop-end.self c.read_more.new.self _ c.loop-end.invariant.kept
+    c.loop-end.invariant.heard c.in_err-read_more.ensures.heard)
+
+pub loop-end-init : goal.loop-end-init
+loop-end-init g c = record {
+  reads = reads_nothing _ c.args.self.now;
+  bound = omega arith;
+  kept = keeps-known _;
+  reader = c.requires.reader_clear;
+  writer = c.requires.writer_clear;
+  counted = λ first counted. counted;
+  heard = hears_still AreNone _ _ c.args.self.now c.args.self.now [] (nothing_read c.args.self.now) (λ end. end);
+}
 
 pub loop-end-preserved : goal.loop-end-preserved
 loop-end-preserved g c = record {
@@ -33,139 +123,4 @@ loop-end-preserved g c = record {
       c.in_ok-read_more.ensures.counted;
   heard = hears_on _ _ _ _ _ c.args.self.now c.loop-end.self c.read_more.new.self [] c.loop-end.invariant.kept
       c.loop-end.invariant.heard c.in_ok-read_more.ensures.heard;
-}
-
-pub returns-in-Some-clause-counted : goal.returns-in-Some-clause-counted
-returns-in-Some-clause-counted g c =
-    counts_both c.args.self.now c.loop-end.self c.tell_ended.new.self _ _ _ c.loop-end.invariant.counted
-    (counts_same c.loop-end.self c.tell_ended.new.self _ c.tell_ended.ensures.same.count c.tell_ended.ensures.same.over)
-
-pub returns-then-not-branch-clause-counted : goal.returns-then-not-branch-clause-counted
-returns-then-not-branch-clause-counted g c =
-    counts_both c.args.self.now c.read_more.new.self c.tell_last.new.self _ _ _
-    (counts_both c.args.self.now c.loop-end.self c.read_more.new.self _ _ _ c.loop-end.invariant.counted c.in_ok-read_more.ensures.counted)
-    (counts_same c.read_more.new.self c.tell_last.new.self _ c.tell_last.ensures.count c.tell_last.ensures.over)
-
-pub returns-in_err-read_more-clause-lines : goal.returns-in_err-read_more-clause-lines
-returns-in_err-read_more-clause-lines g c =
-    let failed = err_from_is_err_and c.from_residual.result c.from_residual.ensures.1 in
-    rw failed.1 (reads_both _ _ _ c.args.self.now c.loop-end.self c.read_more.new.self _ _ c.loop-end.invariant.reads
-    c.in_err-read_more.ensures.lines)
-
-pub returns-in-Some-clause-stopped : goal.returns-in-Some-clause-stopped
-returns-in-Some-clause-stopped g c = λ is. absurd (no_fault _ _ is)
-
-pub returns-in-Some-clause-cause : goal.returns-in-Some-clause-cause
-returns-in-Some-clause-cause g c = λ is. absurd (no_fault _ _ is)
-
-pub returns-in-Some-clause-flushed : goal.returns-in-Some-clause-flushed
-returns-in-Some-clause-flushed g c = λ is. absurd (no_fault _ _ is)
-
-pub returns-in-Some-clause-write_fault : goal.returns-in-Some-clause-write_fault
-returns-in-Some-clause-write_fault g c = λ is. absurd (no_fault _ _ is)
-
-pub returns-then-self-clause-stopped : goal.returns-then-self-clause-stopped
-returns-then-self-clause-stopped g c = λ is. absurd (no_fault _ _ is)
-
-pub returns-then-self-clause-cause : goal.returns-then-self-clause-cause
-returns-then-self-clause-cause g c = λ is. absurd (no_fault _ _ is)
-
-pub returns-then-self-clause-flushed : goal.returns-then-self-clause-flushed
-returns-then-self-clause-flushed g c = λ is. absurd (no_fault _ _ is)
-
-pub returns-then-self-clause-write_fault : goal.returns-then-self-clause-write_fault
-returns-then-self-clause-write_fault g c = λ is. absurd (no_fault _ _ is)
-
-pub returns-then-not-branch-clause-stopped : goal.returns-then-not-branch-clause-stopped
-returns-then-not-branch-clause-stopped g c = λ is. absurd (no_fault _ _ is)
-
-pub returns-then-not-branch-clause-cause : goal.returns-then-not-branch-clause-cause
-returns-then-not-branch-clause-cause g c = λ is. absurd (no_fault _ _ is)
-
-pub returns-then-not-branch-clause-flushed : goal.returns-then-not-branch-clause-flushed
-returns-then-not-branch-clause-flushed g c = λ is. absurd (no_fault _ _ is)
-
-pub returns-then-not-branch-clause-write_fault : goal.returns-then-not-branch-clause-write_fault
-returns-then-not-branch-clause-write_fault g c = λ is. absurd (no_fault _ _ is)
-
-pub returns-in-Some-clause-kept : goal.returns-in-Some-clause-kept
-returns-in-Some-clause-kept g c = c.loop-end.invariant.kept
-
-pub returns-in-Some-clause-reader : goal.returns-in-Some-clause-reader
-returns-in-Some-clause-reader g c = λ other. c.loop-end.invariant.reader
-
-pub returns-in-Some-clause-writer : goal.returns-in-Some-clause-writer
-returns-in-Some-clause-writer g c = λ other. c.loop-end.invariant.writer
-
-pub returns-then-self-clause-kept : goal.returns-then-self-clause-kept
-returns-then-self-clause-kept g c = c.loop-end.invariant.kept
-
-pub returns-then-self-clause-reader : goal.returns-then-self-clause-reader
-returns-then-self-clause-reader g c = λ other. c.loop-end.invariant.reader
-
-pub returns-then-self-clause-writer : goal.returns-then-self-clause-writer
-returns-then-self-clause-writer g c = λ other. c.loop-end.invariant.writer
-
-pub returns-in-Some-clause-end : goal.returns-in-Some-clause-end
-returns-in-Some-clause-end g c = λ is. absurd (no_end is)
-
-pub returns-then-self-clause-lines : goal.returns-then-self-clause-lines
-returns-then-self-clause-lines g c = c.loop-end.invariant.reads
-
-pub returns-then-self-clause-bound : goal.returns-then-self-clause-bound
-returns-then-self-clause-bound g c = c.loop-end.invariant.bound
-
-pub returns-then-self-clause-fewer : goal.returns-then-self-clause-fewer
-returns-then-self-clause-fewer g c = λ is. absurd (no_more is)
-
-pub returns-then-self-clause-counted : goal.returns-then-self-clause-counted
-returns-then-self-clause-counted g c = c.loop-end.invariant.counted
-
-pub returns-then-not-branch-clause-kept : goal.returns-then-not-branch-clause-kept
-returns-then-not-branch-clause-kept g c = keeps-both _ _ _ c.loop-end.invariant.kept c.in_ok-read_more.ensures.kept
-
-pub returns-then-not-branch-clause-reader : goal.returns-then-not-branch-clause-reader
-returns-then-not-branch-clause-reader g c = λ other. c.in_ok-read_more.ensures.reader (λ is. no_fault _ _ is)
-
-pub returns-then-not-branch-clause-writer : goal.returns-then-not-branch-clause-writer
-returns-then-not-branch-clause-writer g c = λ other. c.in_ok-read_more.ensures.writer (λ is. no_fault _ _ is)
-
-pub returns-in-Some-clause-heard : goal.returns-in-Some-clause-heard
-returns-in-Some-clause-heard g c =
-    hears_on _ _ _ _ _ c.args.self.now c.loop-end.self c.tell_ended.new.self _ c.loop-end.invariant.kept c.loop-end.invariant.heard
-    (hears_still AreNone _ _ c.loop-end.self c.tell_ended.new.self _
-    (line_read c.loop-end.self c.tell_ended.new.self c.in-Some.end (rw c.held.ensures at c.in-Some.ensures) c.tell_ended.ensures)
-    (λ end. c.tell_ended.ensures.same.at_end ∙ end))
-
-pub returns-then-not-branch-clause-heard : goal.returns-then-not-branch-clause-heard
-returns-then-not-branch-clause-heard g c =
-    let no_more = rw c.if-not-branch.true at c.in_ok-read_more.ensures.end in
-    let end = no_more refl in
-    let kept = keeps-both _ _ _ c.loop-end.invariant.kept c.in_ok-read_more.ensures.kept in
-    hears_on _ _ _ _ _ c.args.self.now c.read_more.new.self c.tell_last.new.self _ kept
-    (hears_on _ _ _ _ _ c.args.self.now c.loop-end.self c.read_more.new.self [] c.loop-end.invariant.kept c.loop-end.invariant.heard
-    c.in_ok-read_more.ensures.heard)
-    (hears_still AreNone _ _ c.read_more.new.self c.tell_last.new.self _
-    (last_read c.read_more.new.self c.tell_last.new.self c.tell_last.result c.in_ok-read_more.ensures.goes_on end.unended
-    c.tell_last.ensures)
-    (λ is. c.tell_last.ensures.at_end))
-
-pub returns-in_err-read_more-clause-heard : goal.returns-in_err-read_more-clause-heard
-returns-in_err-read_more-clause-heard g c =
-    let failed = err_from_is_err_and c.from_residual.result c.from_residual.ensures.1 in
-    rw failed.1 (hears_on _ _ _ _ _ c.args.self.now c.loop-end.self c.read_more.new.self _ c.loop-end.invariant.kept
-    c.loop-end.invariant.heard c.in_err-read_more.ensures.heard)
-
-pub returns-then-self-clause-heard : goal.returns-then-self-clause-heard
-returns-then-self-clause-heard g c = c.loop-end.invariant.heard
-
-pub loop-end-init : goal.loop-end-init
-loop-end-init g c = record {
-  reads = reads_nothing _ c.args.self.now;
-  bound = omega arith;
-  kept = keeps-known _;
-  reader = c.requires.reader_clear;
-  writer = c.requires.writer_clear;
-  counted = λ first counted. counted;
-  heard = hears_still AreNone _ _ c.args.self.now c.args.self.now [] (nothing_read c.args.self.now) (λ end. end);
 }

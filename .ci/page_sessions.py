@@ -237,6 +237,13 @@ def last_changes(visit: Visit) -> None:
     visit.row("a flag has no digits", "return [by('digit').disabled, by('refusal').textContent]", [True, "No state up to this one changed flag 07"])
     browser.run("by('digit').value = ''; by('watched').value = 'X'; by('watched').dispatchEvent(new Event('change'))")
     visit.row("a register has digits", "return by('digit').disabled", False)
+    visit.anew()
+    for size in (4, 20):
+        browser.run("return begun(() => give(arguments[0]))", f"size {size}\n")
+        visit.quiet()
+    browser.run("by('watched').value = 'R12'; by('digit').value = '13'")
+    browser.click("#last-change")
+    visit.row("a register that a command made", told, "The last change of digit 13 of R12: no such register → 0")
 
 
 def earlier_changes(visit: Visit) -> None:

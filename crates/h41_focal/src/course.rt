@@ -59,6 +59,7 @@ pub fn fail<const REGS: usize>(
 
 /// Returns whether flag 25 is set, so that an error of a line is ignored. In that case it clears the flag and moves the
 /// position to the next line, unless the line was typed; otherwise the position remains at the line.
+#[cold]
 #[inline(never)]
 fn passes_fault<const REGS: usize>(machine: &mut Machine<REGS>, origin: Origin) -> bool
     ensures done { (fault : LineFault) → LineFails origin fault (machine_of machine.old)

@@ -16,6 +16,7 @@ use crate::mode_lines::set_angle_unit;
 use crate::origin::Origin;
 use crate::outcome::LineOutcome;
 use crate::questions::ask;
+use crate::rare_lines::other_function;
 use crate::refusal::FocalRefusal;
 use crate::stack_lines::{clear_registers, do_nothing, move_stack};
 use crate::works::{FunctionWork, work_of};
@@ -80,6 +81,6 @@ pub fn plain_at_once<const REGS: usize>(
         Some(FunctionWork::OfX(value)) => Ok(of_x(machine, origin, value)),
         Some(FunctionWork::Move(movement)) => Ok(move_stack(machine, origin, movement)),
         Some(FunctionWork::Return) => Ok(go_back(machine, pages, origin)),
-        _ => plain(machine, pages, origin, function),
+        _ => other_function(machine, pages, origin, function),
     }
 }

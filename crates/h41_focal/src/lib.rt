@@ -19,6 +19,7 @@ mod operand_lines;
 mod origin;
 mod outcome;
 mod questions;
+mod rare_lines;
 mod refusal;
 mod register_lines;
 mod register_uses;

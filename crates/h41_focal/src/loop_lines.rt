@@ -19,6 +19,7 @@ use h41_rows::{loop_down, loop_up};
 /// Executes `ISG` with the register at an address: its counter is increased. While the loop continues, the program
 /// continues at the next line, otherwise at the one after it; a typed line does not move. If the register contains no
 /// number, the error is ALPHA DATA. BrokenProgram (14) if the line to be skipped cannot be read; nothing changes then.
+#[inline(always)]
 pub fn count_up<const REGS: usize>(
     machine: &mut Machine<REGS>,
     pages: &Pages,
@@ -45,6 +46,7 @@ pub fn count_up<const REGS: usize>(
 /// Executes `DSE` with the register at an address: its counter is decreased. While the loop continues, the program
 /// continues at the next line, otherwise at the one after it; a typed line does not move. If the register contains no
 /// number, the error is ALPHA DATA. BrokenProgram (14) if the line to be skipped cannot be read; nothing changes then.
+#[inline(always)]
 pub fn count_down<const REGS: usize>(
     machine: &mut Machine<REGS>,
     pages: &Pages,

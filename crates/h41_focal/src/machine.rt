@@ -92,7 +92,19 @@ impl<const REGS: usize> Machine<REGS> {
         kept_answers_stay_right();
         match short_standing(self, pages) {
             Some((line, next)) => carry_short(self, pages, Origin::Program(next), line),
-            None => self.step_long(pages),
+            None => self.step_other(pages),
+        }
+    }
+
+    /// Executes the program line at the position as `step_long` does.
+    #[inline(always)]
+    fn step_other(&mut self, pages: &Pages) -> Result<LineOutcome, FocalRefusal>
+        requires { AreRight self.old }
+        ensures { StepsMachine pages.now self.old self.new result }
+    {
+        match self.step_long(pages) {
+            Ok(outcome) => Ok(outcome),
+            Err(refusal) => Err(refusal),
         }
     }
 

@@ -16,6 +16,7 @@ use crate::machine::Machine;
 use crate::mode_lines::use_digits;
 use crate::origin::Origin;
 use crate::outcome::LineOutcome;
+use crate::rare_lines::{digits_line, flag_line};
 use crate::refusal::FocalRefusal;
 use crate::register_uses::use_register;
 use crate::stack_lines::be_silent;
@@ -47,8 +48,8 @@ pub fn with_operand<const REGS: usize>(
     }
     match use_of(function) {
         OperandUse::Register(taken) => with_register(machine, pages, origin, taken, &operand),
-        OperandUse::Digits(taken) => with_digits(machine, origin, taken, operand),
-        OperandUse::Flag(taken) => with_flag(machine, pages, origin, taken, operand),
+        OperandUse::Digits(taken) => digits_line(machine, origin, taken, operand),
+        OperandUse::Flag(taken) => flag_line(machine, pages, origin, taken, operand),
         OperandUse::Label => Ok(be_silent(machine, origin)),
     }
 }
@@ -104,7 +105,8 @@ fn with_register<const REGS: usize>(
 
 /// Executes `FIX`, `SCI`, `ENG` or `TONE` with the digit that the operand names. If it is above 9, the error is DATA
 /// ERROR; NONEXISTENT or ALPHA DATA if the register of an indirect operand does not exist or contains no number.
-fn with_digits<const REGS: usize>(
+#[inline(never)]
+pub fn with_digits<const REGS: usize>(
     machine: &mut Machine<REGS>,
     origin: Origin,
     taken: DigitsUse,
@@ -125,7 +127,8 @@ fn with_digits<const REGS: usize>(
 /// Executes a function with a flag, for example `SF` or `FS?`, with the flag that the operand names. If there is no
 /// such flag, the error is NONEXISTENT; ALPHA DATA if the register of an indirect operand contains no number.
 /// BrokenProgram (14) if the line that a test skips cannot be read; nothing changes then.
-fn with_flag<const REGS: usize>(
+#[inline(never)]
+pub fn with_flag<const REGS: usize>(
     machine: &mut Machine<REGS>,
     pages: &Pages,
     origin: Origin,

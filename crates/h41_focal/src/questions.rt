@@ -20,6 +20,7 @@ use h41_rows::{Test, asks};
 /// Returns the origin of a line after its test, with the position at which a program continues: the next line if the
 /// test is true (`holds`), otherwise the one after it. A typed line remains a typed line. BrokenProgram (14) if the
 /// line to be skipped cannot be read.
+#[inline(always)]
 pub fn lead<const REGS: usize>(
     ram: &Ram<REGS>,
     pages: &Pages,

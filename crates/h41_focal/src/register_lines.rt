@@ -74,6 +74,7 @@ pub fn combine<const REGS: usize>(
 }
 
 /// Executes `VIEW`: the display shows the register at an address, and the program continues. Stack lift is turned on.
+#[inline(always)]
 pub fn view<const REGS: usize>(
     machine: &mut Machine<REGS>,
     origin: Origin,
@@ -89,6 +90,7 @@ pub fn view<const REGS: usize>(
 
 /// Executes `ASTO`: writes the first six characters of ALPHA to the register at an address. ALPHA is unchanged.
 /// Stack lift is turned on.
+#[inline(always)]
 pub fn store_alpha<const REGS: usize>(
     machine: &mut Machine<REGS>,
     origin: Origin,
@@ -105,6 +107,7 @@ pub fn store_alpha<const REGS: usize>(
 }
 
 /// Executes `ARCL`: appends the text of the register at an address to ALPHA, and turns stack lift on.
+#[inline(always)]
 pub fn recall_alpha<const REGS: usize>(
     machine: &mut Machine<REGS>,
     origin: Origin,
@@ -120,6 +123,7 @@ pub fn recall_alpha<const REGS: usize>(
 }
 
 /// Executes `X<>`: exchanges X and the register at an address, and turns stack lift on.
+#[inline(always)]
 pub fn exchange_x<const REGS: usize>(
     machine: &mut Machine<REGS>,
     origin: Origin,

@@ -11,14 +11,13 @@ ghost use Rattle.h41_labels.specs.KeptAnswers.{IsRight};
 ghost use Rattle.h41_pages.specs.PageMap.{PageMap};
 ghost use Rattle.h41_ram.specs.RegisterMap.{is_sound};
 
-use crate::calls::call_module;
 use crate::functions::plain_at_once;
 use crate::labels::to_label;
-use crate::lines::{indirect, short};
+use crate::lines::short;
 use crate::machine::Machine;
-use crate::operand_lines::with_operand;
 use crate::origin::Origin;
 use crate::outcome::LineOutcome;
+use crate::rare_lines::{indirect_line, module_line, operand_line};
 use crate::refusal::FocalRefusal;
 use crate::stack_lines::be_silent;
 use h41_codes::{Branch, Parameter, ShortLine};
@@ -91,11 +90,11 @@ pub fn carry_short<const REGS: usize>(
         ShortLine::LocalLabel(_) => Ok(be_silent(machine, origin)),
         ShortLine::Register(function, register) => short(machine, origin, function, register),
         ShortLine::Plain(function) => plain_at_once(machine, pages, origin, function),
-        ShortLine::WithOperand(function, operand) => with_operand(
+        ShortLine::WithOperand(function, operand) => operand_line(
             machine, pages, origin, function, operand,
         ),
-        ShortLine::Module(number, entry) => Ok(call_module(machine, pages, origin, number, entry)),
-        ShortLine::BranchIndirect(branch, register) => indirect(
+        ShortLine::Module(number, entry) => Ok(module_line(machine, pages, origin, number, entry)),
+        ShortLine::BranchIndirect(branch, register) => indirect_line(
             machine, pages, origin, branch, register,
         ),
         ShortLine::ShortGoTo(label, _) => {

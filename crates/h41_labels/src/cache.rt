@@ -79,7 +79,7 @@ impl LabelCache {
             → AnswersLocal ram.now.registers at label result }
         ensures right { IsRight self.old ram.now.registers → IsRight self.new ram.now.registers }
     {
-        self.answer(ram, Search::Local(at, label))
+        self.answer(ram, &Search::Local(at, label))
     }
 
     /// Returns the position (a byte of program memory, counted from 0) of the last global label with the name `name`,
@@ -94,7 +94,7 @@ impl LabelCache {
             → AnswersOf (λ lines. position_of (named_in name lines)) ram.now.registers 0 result }
         ensures right { IsRight self.old ram.now.registers → IsRight self.new ram.now.registers }
     {
-        self.answer(ram, Search::Global(name))
+        self.answer(ram, &Search::Global(name))
     }
 
     /// Returns the cached answer of a search for the local label `LBL n` from the position `at`, with the number n of
@@ -128,19 +128,20 @@ impl LabelCache {
 
     /// Returns the cached answer of a search for a label. If there is none, searches program memory and stores the
     /// answer in the cache.
-    fn answer<const REGS: usize>(&mut self, ram: &Ram<REGS>, search: Search) -> Option<u16>
+    fn answer<const REGS: usize>(&mut self, ram: &Ram<REGS>, search: &Search) -> Option<u16>
         requires { IsTrue (is_sound ram.now.registers) }
-        ensures answer { Answers ram.now.registers self.old search result }
-        ensures kept { self.new ≡ after_search search result self.old }
+        ensures answer { Answers ram.now.registers self.old search.now result }
+        ensures kept { self.new ≡ after_search search.now result self.old }
         ensures most { length self.new ≤ most_answers }
-        ensures found { IsRight self.old ram.now.registers → Finds ram.now.registers search result }
+        ensures found { IsRight self.old ram.now.registers
+            → Finds ram.now.registers search.now result }
         ensures right { IsRight self.old ram.now.registers → IsRight self.new ram.now.registers }
     {
-        match self.kept(&search) {
+        match self.kept(search) {
             Some(answer) => answer,
             None => {
-                let answer = found(ram, &search);
-                self.keep(search, answer);
+                let answer = found(ram, search);
+                self.keep(*search, answer);
                 answer
             }
         }
@@ -179,6 +180,7 @@ impl LabelCache {
 
 /// Returns the first answer among `slots` whose search for a label is the same as `search`, or `None` if there is none.
 /// `marks` are the numbers (`Search::mark`) of the searches in `slots`.
+#[inline(always)]
 fn kept_among(slots: &[KeptAnswer], marks: &[u32], search: &Search) -> Option<Option<u16>>
     requires { marks.now ≡ map mark_beside slots.now }
     ensures { result ≡ answer_of search.now slots.now }

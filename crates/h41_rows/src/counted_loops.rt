@@ -49,6 +49,7 @@ pub fn loop_down<const REGS: usize>(ram: &Ram<REGS>, address: u16) -> Result<Cou
 /// Returns the result of ISG (plus) or DSE (minus) for the register at an address: its new content, and whether the
 /// loop continues. ALPHA DATA if the register contains no number; OUT OF RANGE if the result is out of range and flag
 /// 24 is clear. The decimals of the counter are computed once, because both results need them.
+#[inline(always)]
 fn loop_along<const REGS: usize>(
     ram: &Ram<REGS>,
     address: u16,

@@ -158,11 +158,15 @@ mode_after (answers.Failed fault) mode = modes.Idle
 mode_after answers.Runs mode = modes.Run
 mode_after answer mode = mode
 
--- The calculator after the answer of a line: it is shown, and a program continues, stops or starts;
--- or a module's function in microcode runs.
+-- The calculator after the answer of a line: it is shown, and a program continues, stops or starts.
+abbrev pub with_answer : Answer → CalculatorState → CalculatorState
+with_answer answer s = record (with_shown answer s) { mode = mode_after answer s.mode }
+
+-- The calculator after the answer of a line, which may also start a module's function in
+-- microcode.
 abbrev pub after_answer : Answer → CalculatorState → CalculatorState
 after_answer (answers.Begins address) s = with_function address s
-after_answer answer s = record (with_shown answer s) { mode = mode_after answer s.mode }
+after_answer answer s = with_answer answer s
 
 -- The calculator after a line was executed.
 abbrev pub after_line : CalculatorState → Left → CalculatorState

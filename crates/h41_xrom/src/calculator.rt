@@ -14,7 +14,8 @@ ghost use Rattle.h41_xrom.specs.Calculator.{Step, StepIn, StepsByLine, TakesPage
 ghost use Rattle.h41_xrom.specs.Calculator.{call_refusal, after_call, caller_in, with_function};
 ghost use Rattle.h41_xrom.specs.Calculator.{machine_of};
 ghost use Rattle.h41_xrom.specs.Calculator.{mode_after, mode_after_word, mode_of, not_typing};
-ghost use Rattle.h41_xrom.specs.Calculator.{after_reset, start, with_page, with_shown};
+ghost use Rattle.h41_xrom.specs.Calculator.{after_reset, start, with_answer, with_page};
+ghost use Rattle.h41_xrom.specs.Calculator.{with_shown};
 ghost use Rattle.h41_xrom.specs.Calculator.{without_page};
 ghost use Rattle.h41_xrom.specs.KeptLabels.{KeepsAfterKey, KeepsAfterLine, KeepsAfterMeaning};
 ghost use Rattle.h41_xrom.specs.KeptLabels.{KeepsAfterProgram, KeepsAfterStep, KeepsAfterStepIn};
@@ -325,15 +326,24 @@ impl<const REGS: usize> Calculator<REGS> {
         match outcome {
             LineOutcome::Done => {}
             LineOutcome::Begins(address) => self.enter(address),
-            outcome => {
-                self.mode = mode_after_line(self.mode, &outcome);
-                self.show(outcome);
-            }
+            outcome => self.end_other(outcome),
         }
+    }
+
+    /// Shows the result of a line that was executed, and changes the mode if the line stops or starts a program.
+    #[inline(always)]
+    fn end_other(&mut self, outcome: LineOutcome)
+        ensures state { self.new.state
+            ≡ with_answer (answer_of self.old.state.nut.ram outcome) self.old.state }
+        ensures cache { self.new.cache ≡ self.old.cache }
+    {
+        self.mode = mode_after_line(self.mode, &outcome);
+        self.show(outcome);
     }
 
     /// Shows the result of an executed line in the display: a text, an error or the answer of a test as the message.
     /// `OFF` turns the display off. Few lines of a program show a result, so this is not compiled into the loop over lines.
+    #[cold]
     #[inline(never)]
     fn show(&mut self, outcome: LineOutcome)
         ensures state { self.new.state

@@ -26,9 +26,9 @@ returns-in-Digits g c =
     record {
       taken =
           digits_taken c.args.pages.now c.args.origin c.args.function c.args.operand c.in-Digits.taken _ _ _ held row.0 row.1
-          (c.with_digits.ensures.used c.args.pages.now);
-      unchanged = c.with_digits.ensures.unchanged;
-      keeps = c.with_digits.ensures.keeps;
+          (c.digits_line.ensures.used c.args.pages.now);
+      unchanged = c.digits_line.ensures.unchanged;
+      keeps = c.digits_line.ensures.keeps;
     }
 
 pub returns-in-Flag : goal.returns-in-Flag
@@ -40,9 +40,9 @@ returns-in-Flag g c =
     record {
       taken =
           flag_taken c.args.pages.now c.args.origin c.args.function c.args.operand c.in-Flag.taken _ _ _ held row.0 row.1
-          c.with_flag.ensures.used;
-      unchanged = c.with_flag.ensures.unchanged;
-      keeps = c.with_flag.ensures.keeps;
+          c.flag_line.ensures.used;
+      unchanged = c.flag_line.ensures.unchanged;
+      keeps = c.flag_line.ensures.keeps;
     }
 
 pub returns-in-Label : goal.returns-in-Label

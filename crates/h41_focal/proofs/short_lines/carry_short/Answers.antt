@@ -49,31 +49,31 @@ returns-in-WithOperand g c =
     (record {
       taken =
           carries_whole c.args.pages.now c.args.origin (lines.WithOperand c.in-WithOperand.function c.in-WithOperand.operand)
-          (machine_of c.args.machine.now) (machine_of c.with_operand.new.machine)
-          c.with_operand.result (c.with_operand.ensures.taken);
-      unchanged = same_machine c.args.machine.now c.with_operand.new.machine c.with_operand.result c.with_operand.ensures.unchanged;
-      kept = out_kept (is_left_out (lines.WithOperand c.in-WithOperand.function c.in-WithOperand.operand)) _ _ c.with_operand.ensures.keeps;
+          (machine_of c.args.machine.now) (machine_of c.operand_line.new.machine)
+          c.operand_line.result (c.operand_line.ensures.taken);
+      unchanged = same_machine c.args.machine.now c.operand_line.new.machine c.operand_line.result c.operand_line.ensures.unchanged;
+      kept = out_kept (is_left_out (lines.WithOperand c.in-WithOperand.function c.in-WithOperand.operand)) _ _ c.operand_line.ensures.keeps;
     })
 
 pub returns-in-Module : goal.returns-in-Module
 returns-in-Module g c =
-    let done = c.call_module.ensures.done in
+    let done = c.module_line.ensures.done in
     rw c.in-Module.is
     (record {
       taken =
           called_module c.args.pages.now c.args.origin c.in-Module.number c.in-Module.entry (machine_of c.args.machine.now)
-          (machine_of c.call_module.new.machine) c.call_module.result done;
+          (machine_of c.module_line.new.machine) c.module_line.result done;
       unchanged = tt;
-      kept = rest_kept _ _ c.call_module.ensures.keeps;
+      kept = rest_kept _ _ c.module_line.ensures.keeps;
     })
 
 pub returns-in-BranchIndirect : goal.returns-in-BranchIndirect
 returns-in-BranchIndirect g c =
     rw c.in-BranchIndirect.is
     (record {
-      taken = c.indirect.ensures.taken;
-      unchanged = c.indirect.ensures.unchanged;
-      kept = c.indirect.ensures.kept;
+      taken = c.indirect_line.ensures.taken;
+      unchanged = c.indirect_line.ensures.unchanged;
+      kept = c.indirect_line.ensures.kept;
     })
 
 pub returns-in-ShortGoTo : goal.returns-in-ShortGoTo

@@ -1,24 +1,21 @@
 -- The borrow of a difference is set exactly if the first register is less than the second.
-use Rattle.std.proofs.Common.{◌≡◌, ℕ, zero, suc, ◌+◌, ◌-◌, ◌*◌, ◌^◌, ◌<◌, ◌≤◌, ◌⊎◌, Bool, true, false, nat_lt, List, [], slice_index, refl}
-use Rattle.std.proofs.Common.{sym, ap, subst, arith, inl, inr, ◌∙◌}
+use Rattle.std.proofs.Common.{◌≡◌, ℕ, zero, suc, ◌+◌, ◌-◌, ◌*◌, ◌^◌, ◌<◌, ◌≤◌, ◌⊎◌, Bool, true, false, nat_lt, List, slice_index, refl}
+use Rattle.std.proofs.Common.{sym, ap, subst, arith, inl, inr, ◌∙◌, rules}
 use Rattle.std.proofs.Math.Nat.{mul-le-mul_right, pow-succ'}
-use Rattle.std.proofs.lemmas.Bool.Decides.{nat_tests}
 use Rattle.std.proofs.lemmas.List.Sums.{sum_by-cons}
 use Rattle.std.specs.List.{sum_by, range_with_len}
 use Rattle.std.proofs.lemmas.List.{get_or-replicate}
 use Rattle.std.proofs.Math.ListN.{get_or-eq_default}
-use Rattle.std.proofs.lemmas.Bool.{cases_lt}
 use Rattle.h41_digits.specs.Register.{IsRegister}
 use Rattle.h41_fields.specs.Field.{from_to}
 use Rattle.h41_arith.specs.DigitRule.{DifferenceDigit, HasCarries, Difference, carry_digit, zeros, span_value, is_less}
 use Rattle.h41_arith.specs.DigitRuleLaws.{BorrowTellsLess, ComplementBorrows}
+use Rattle.h41_arith.proofs.InPlace.{is_less_here, not_less_here}
 
 -- A sum over consecutive numbers is that without the last, plus that of the last.
 pub sum_more : (f : ℕ → ℕ) (first count : ℕ)
     → sum_by f (range_with_len first (suc count)) ≡ sum_by f (range_with_len first count) + f (first + count)
-sum_more f first zero =
-    let here : first + 0 ≡ first = omega arith in
-    rw (sum_by-cons f first [], here) (omega arith)
+sum_more f first zero = search (rules, sum_by-cons)
 sum_more f first (suc count) =
     let here : f (first + 1 + count) ≡ f (first + suc count) = ap f (omega arith) in
     omega (
@@ -99,16 +96,7 @@ module _ (base lo hi : ℕ) (x y z : List ℕ) (out : ℕ) (p : IsRegister 14 x)
       (borrow_at (hi + 1 - lo) (omega arith))
 
 told : (borrow : Bool) (x y : ℕ) → TellsLess (carry_digit borrow) x y → borrow ≡ nat_lt x y
-told true x y (inl order) = absurd (omega (arith, order.0))
-told true x y (inr order) = sym (lt_true x y order.1)
-  where
-    lt_true : (x y : ℕ) → x < y → nat_lt x y ≡ true
-    lt_true x y less = grind (arith, nat_tests)
-told false x y (inl order) = sym (lt_false x y order.1)
-  where
-    lt_false : (x y : ℕ) → y ≤ x → nat_lt x y ≡ false
-    lt_false x y less = grind (arith, nat_tests)
-told false x y (inr order) = absurd (omega (arith, order.0))
+told borrow x y known = grind (arith, is_less_here, not_less_here)
 
 -- In any base, the borrow of x - y is set exactly if x is less than y.
 pub borrow_is_less : BorrowTellsLess
@@ -118,10 +106,7 @@ borrow_is_less base lo hi into x y z borrow ordered inside p q difference =
     (borrow_out base lo hi x y z (carry_digit borrow) p q inside difference.digits ordered)
 
 zero_at : (place : ℕ) → slice_index zeros place ≡ 0
-zero_at place = elim (cases_lt place 14) [
-  | inl below ↦ get_or-replicate 14 place 0 0 below
-  | inr above ↦ get_or-eq_default zeros 0 (above)
-]
+zero_at place = search (rules, get_or-replicate, get_or-eq_default)
 
 module _ (base lo hi : ℕ) (x z : List ℕ) (out : ℕ) (d : Difference base zeros x 1 lo hi z out) where
   -- A zero from which a borrow is subtracted borrows again.

@@ -1,6 +1,7 @@
 -- The carries of the digit rule: they are determined from below, and go on by one place.
-use Rattle.std.proofs.Common.{◌≡◌, ℕ, zero, suc, ◌+◌, ◌-◌, ◌<◌, ◌≤◌, Bool, true, false, List, [], ◌∷◌, ◌++◌, length, slice_index, refl, ap}
+use Rattle.std.proofs.Common.{◌≡◌, ℕ, zero, suc, ◌+◌, ◌-◌, ◌<◌, ◌≤◌, Bool, List, [], ◌∷◌, ◌++◌, length, slice_index, ap}
 use Rattle.std.proofs.Common.{arith, inl, inr, sym, subst, ◌∙◌, replicate, set, length-append, get_or-set_other, get_or-set_same, ◌≢◌}
+use Rattle.std.proofs.Common.{rules}
 use Rattle.std.proofs.lemmas.List.{length-replicate, get_or_append_left, ext_get_or}
 use Rattle.std.proofs.lemmas.Bool.{cases_lt}
 use Rattle.std.proofs.Math.Seq.{get_or-append_seam}
@@ -12,34 +13,17 @@ abbrev pub Determines : (ℕ → ℕ → ℕ → ℕ → ℕ → Type 0) → Typ
 Determines rule = (x y carry z out w other : ℕ) → rule x y carry z out → rule x y carry w other → (z ≡ w) × (out ≡ other)
 
 pub SumDigit-determines : (base : ℕ) → Determines (SumDigit base)
-SumDigit-determines base x y carry z out w other (inl p) (inl q) = (p.1 ∙ sym q.1, p.2 ∙ sym q.2)
-SumDigit-determines base x y carry z out w other (inl p) (inr q) = absurd (omega (arith, p.0, q.0))
-SumDigit-determines base x y carry z out w other (inr p) (inl q) = absurd (omega (arith, p.0, q.0))
-SumDigit-determines base x y carry z out w other (inr p) (inr q) = (p.1 ∙ sym q.1, p.2 ∙ sym q.2)
+SumDigit-determines base x y carry z out w other known more = grind arith
 
 pub DifferenceDigit-determines : (base : ℕ) → Determines (DifferenceDigit base)
-DifferenceDigit-determines base x y carry z out w other (inl p) (inl q) = (p.1 ∙ sym q.1, p.2 ∙ sym q.2)
-DifferenceDigit-determines base x y carry z out w other (inl p) (inr q) = absurd (omega (arith, p.0, q.0))
-DifferenceDigit-determines base x y carry z out w other (inr p) (inl q) = absurd (omega (arith, p.0, q.0))
-DifferenceDigit-determines base x y carry z out w other (inr p) (inr q) = (p.1 ∙ sym q.1, p.2 ∙ sym q.2)
+DifferenceDigit-determines base x y carry z out w other known more = grind arith
 
 module _ (rule : ℕ → ℕ → ℕ → ℕ → ℕ → Type 0) (determines : Determines rule) (x y z w : List ℕ) (carry_in lo hi out other : ℕ)
     (a : HasCarries rule x y carry_in lo hi z out) (b : HasCarries rule x y carry_in lo hi w other) where
   -- Two lists of carries agree at each place above lo.
   same_carry : (above : ℕ) → lo + above ≤ hi + 1 → slice_index a.carries (lo + above) ≡ slice_index b.carries (lo + above)
-  same_carry zero inside =
-      let at : lo ≡ lo + 0 =
-      omega arith in
-      subst (λ index. slice_index a.carries index ≡ slice_index b.carries index) at (a.first ∙ sym b.first)
-  same_carry (suc above) inside =
-      let below = same_carry above (omega arith) in
-      let p = a.places (lo + above) (omega arith) (omega arith) in
-      let q =
-      subst (λ carry. rule (slice_index x (lo + above)) (slice_index y (lo + above))
-      carry (slice_index w (lo + above)) (slice_index b.carries (lo + above + 1)))
-      (sym below) (b.places (lo + above) (omega arith) (omega arith)) in
-      let at : lo + above + 1 ≡ lo + suc above = omega arith in
-      subst (λ index. slice_index a.carries index ≡ slice_index b.carries index) at (determines _ _ _ _ _ _ _ p q).1
+  same_carry zero inside = search rules
+  same_carry (suc above) inside = search (rules, same_carry above (omega arith))
 
   pub same_digit : (place : ℕ) → lo ≤ place → place ≤ hi → slice_index z place ≡ slice_index w place
   same_digit place from to =
@@ -118,23 +102,13 @@ carried_more rule x y carry_in lo next z carry digit out inside from so_far step
 -- The rule holds at all places up to the last.
 pub carried_all : (rule : ℕ → ℕ → ℕ → ℕ → ℕ → Type 0) (x y : List ℕ) (carry_in lo hi : ℕ) (z : List ℕ) (out : ℕ) → carry_in ≤ 1
     → CarriedTo rule x y carry_in lo (hi + 1) z out → HasCarries rule x y carry_in lo hi z out
-carried_all rule x y carry_in lo hi z out bit done = record {
-  bit = bit;
-  carries = done.carries;
-  first = done.first;
-  last = done.last;
-  places = λ place from to. done.places place from (omega arith);
-}
+carried_all rule x y carry_in lo hi z out bit done = search rules
 
 pub carry_le : (carry : Bool) → carry_digit carry ≤ 1
-carry_le true = omega arith
-carry_le false = omega arith
+carry_le carry = grind arith
 
 pub same_carry_bit : (a b : Bool) → carry_digit a ≡ carry_digit b → a ≡ b
-same_carry_bit true true h = refl
-same_carry_bit true false h = absurd (omega (arith, h))
-same_carry_bit false true h = absurd (omega (arith, h))
-same_carry_bit false false h = refl
+same_carry_bit a b h = grind arith
 
 -- A rule that determines one place has one register and one carry as its result.
 pub result_determined : (rule : ℕ → ℕ → ℕ → ℕ → ℕ → Type 0) → Determines rule → IsDetermined (HasCarries rule)

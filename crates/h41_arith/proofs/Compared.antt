@@ -1,8 +1,7 @@
 -- Two registers are compared in a span by the numbers of its digits.
-use Rattle.std.proofs.Common.{◌≡◌, ◌≢◌, ℕ, suc, zero, ◌+◌, ◌-◌, ◌*◌, ◌^◌, ◌<◌, ◌≤◌, Bool, true, false, not, ◌==◌, nat_lt, List, length}
+use Rattle.std.proofs.Common.{◌≡◌, ℕ, suc, zero, ◌+◌, ◌-◌, ◌*◌, ◌^◌, ◌<◌, ◌≤◌, Bool, true, false, not, ◌==◌, nat_lt, List, length}
 use Rattle.std.proofs.Common.{take, drop, slice_index, refl, sym, ap, arith, inl, inr, ◌∙◌, ◌++◌, ◌∷◌, []}
 use Rattle.std.proofs.lemmas.Bool.{cases_eq}
-use Rattle.std.proofs.lemmas.Bool.Decides.{nat_tests}
 use Rattle.std.proofs.lemmas.List.{ext_get_or, take_more, get_or-drop, length-drop, length-take-le}
 use Rattle.h41_digits.specs.Register.{IsRegister, value}
 use Rattle.h41_digits.specs.Packed.{value-cons}
@@ -11,7 +10,7 @@ use Rattle.h41_digits.proofs.Parts.{value-append}
 use Rattle.h41_fields.specs.Field.{from_to}
 use Rattle.h41_arith.specs.DigitRule.{span_value, is_less, is_different}
 use Rattle.h41_arith.proofs.Borrows.{digits_value, value_more}
-use Rattle.h41_arith.proofs.Places.{different_at, same_throughout}
+use Rattle.h41_arith.proofs.Places.{different_at, same_throughout, not_same, same}
 use Rattle.h41_arith.proofs.Parts.{part, part_at, part-register}
 
 -- The number of some digits with one more digit at the left.
@@ -48,16 +47,10 @@ less_by_number x y lo hi a b p q ordered inside is_a is_b =
     ap (λ n. nat_lt n b) (is_a ∙ sym (span_value_is x lo hi p ordered inside))
     ∙ ap (nat_lt (span_value x lo hi)) (is_b ∙ sym (span_value_is y lo hi q ordered inside))
 
-is_same : (a b : ℕ) → a ≡ b → not (a == b) ≡ false
-is_same a b same = grind (arith, nat_tests)
-
-is_other : (a b : ℕ) → a ≢ b → not (a == b) ≡ true
-is_other a b other = grind (arith, nat_tests)
-
 -- If the digits are the same at every place, the numbers are the same.
 same_part : (x y : List ℕ) (lo hi : ℕ) → IsRegister 14 x → IsRegister 14 y → lo ≤ hi → hi < 14 → is_different x y lo hi ≡ false
     → value (part x lo hi) ≡ value (part y lo hi)
-same_part x y lo hi p q ordered inside same =
+same_part x y lo hi p q ordered inside told =
     let a = part-register x lo hi p ordered inside in
     let b = part-register y lo hi q ordered inside in
     ap value (ext_get_or 0 (part x lo hi) (part y lo hi) (a.size ∙ sym b.size) (λ index few.
@@ -68,25 +61,19 @@ same_part x y lo hi p q ordered inside same =
     part_at y lo hi (lo + index) (omega arith) (omega (arith, a.size)) ∙ ap (slice_index (part y lo hi)) read in
     elim (cases_eq (slice_index x (lo + index)) (slice_index y (lo + index))) [
       | inl equal ↦ sym at_x ∙ equal ∙ at_y
-      | inr other ↦ absurd (true_not_false (sym (different_at x y lo hi (lo + index) (omega arith) (omega (arith, a.size)) other) ∙ same))
+      | inr other ↦ absurd (cc (told, different_at x y lo hi (lo + index) (omega arith) (omega (arith, a.size)) other))
     ]))
-  where
-    true_not_false : true ≡ false → ⊥
-    true_not_false h = cc
 
 told_different : (x y : List ℕ) (lo hi : ℕ) (answer : Bool) → IsRegister 14 x → IsRegister 14 y → lo ≤ hi → hi < 14
     → is_different x y lo hi ≡ answer → not (value (part x lo hi) == value (part y lo hi)) ≡ answer
-told_different x y lo hi false p q ordered inside told = is_same _ _ (same_part x y lo hi p q ordered inside told)
-told_different x y lo hi true p q ordered inside told = is_other _ _ (λ same.
+told_different x y lo hi false p q ordered inside told = same _ _ (same_part x y lo hi p q ordered inside told)
+told_different x y lo hi true p q ordered inside told = not_same _ _ (λ equal.
     let digits =
     same_register (hi + 1 - lo) (part x lo hi) (part y lo hi)
-    (part-register x lo hi p ordered inside) (part-register y lo hi q ordered inside) same in
-    true_not_false (sym told
-    ∙ same_throughout x y lo hi
-    (λ place from to. part_at x lo hi place from to ∙ ap (λ d. slice_index d (place - lo)) digits ∙ sym (part_at y lo hi place from to))))
-  where
-    true_not_false : true ≡ false → ⊥
-    true_not_false h = cc
+    (part-register x lo hi p ordered inside) (part-register y lo hi q ordered inside) equal in
+    let none : is_different x y lo hi ≡ false = same_throughout x y lo hi (λ place from to.
+    part_at x lo hi place from to ∙ ap (λ d. slice_index d (place - lo)) digits ∙ sym (part_at y lo hi place from to)) in
+    cc (told, none))
 
 pub different_by_number : (x y : List ℕ) (lo hi a b : ℕ) → IsRegister 14 x → IsRegister 14 y → lo ≤ hi → hi < 14 → a ≡ value (part x lo hi)
     → b ≡ value (part y lo hi) → not (a == b) ≡ is_different x y lo hi

@@ -1,8 +1,7 @@
 -- In base 10 a sum is that of the numbers, and six more at each digit that carries.
-use Rattle.std.proofs.Common.{◌≡◌, ℕ, suc, zero, ◌+◌, ◌-◌, ◌*◌, ◌/◌, ◌%◌, ◌^◌, ◌<◌, ◌≤◌, ◌==◌, Bool, false, not, List, [], ◌∷◌, map}
-use Rattle.std.proofs.Common.{replicate, length, take, drop, refl, sym, ap, subst, arith, inl, inr, ◌∙◌}
+use Rattle.std.proofs.Common.{◌≡◌, ℕ, suc, zero, ◌+◌, ◌-◌, ◌*◌, ◌/◌, ◌%◌, ◌^◌, ◌<◌, ◌≤◌, ◌==◌, Bool, false, not, List, [], ◌∷◌, map, rules}
+use Rattle.std.proofs.Common.{replicate, length, take, drop, refl, sym, ap, subst, arith, ◌∙◌}
 use Rattle.std.proofs.Math.Nat.{pow-succ'}
-use Rattle.std.proofs.lemmas.Bool.{cases_lt}
 use Rattle.std.proofs.lemmas.Bool.Decides.{nat_tests}
 use Rattle.std.proofs.lemmas.List.{length-replicate}
 use Rattle.std.proofs.lemmas.List.Elements.{recursion_from_All}
@@ -44,8 +43,7 @@ carry_bit x y sum carry half bit is = omega (arith, last_of_xor (bit_xor x y) su
 
 -- The other bits of the carry do not change this.
 pub even_with_carry : (x y sum carry half : ℕ) → sum ≡ x + y + carry + 2 * half → bit_xor (bit_xor (bit_xor x y) carry) sum % 2 ≡ 0
-even_with_carry x y sum carry half is =
-    omega (arith, last_of_xor (bit_xor (bit_xor x y) carry) sum, last_of_xor (bit_xor x y) carry, last_of_xor x y)
+even_with_carry x y sum carry half is = search (rules, last_of_xor)
 
 -- The exclusive or of two numbers and their sum, with one digit less.
 pub shifted_xor : (a b s x y sum : ℕ) → a < 16 → b < 16 → s < 16
@@ -94,10 +92,7 @@ abbrev pub total_with_tens : ℕ → ℕ → ℕ → ℕ → ℕ → ℕ
 total_with_tens first second carry mask places = first + second + carry + 6 * tens first second carry (6 * mask) places
 
 nothing_to_read : (sum places : ℕ) → sum < 16 → bit_and (bit_xor (bit_xor 0 0) sum / 16) (ones places) ≡ 0
-nothing_to_read sum places small =
-    let none : sum / 16 ≡ 0 = omega arith in
-    ap (λ n. bit_and n (ones places)) (xor_shr (bit_xor 0 0) sum 4 ∙ ap (bit_xor (bit_xor 0 0 / 16)) none)
-    ∙ omega (arith, and_le_l 0 (ones places))
+nothing_to_read sum places small = search (rules, xor_shr, and_le_l)
 
 -- The bits of two numbers and of their sum determine the carries.
 pub tens_read : (x y : List ℕ) (carry places : ℕ) → AllByRecursion (λ digit. digit < 10) x → AllByRecursion (λ digit. digit < 16) y
@@ -165,14 +160,7 @@ decimal_digits digits number mask places each is is_mask few none =
 tens_step : (a b carry d x y z above : ℕ) → a < 10 → b < 16 → carry ≤ 1 → d < 16
     → d + 16 * z ≡ a + 16 * x + (b + 16 * y) + carry + 6 * ((a + 6 + b + carry) / 16 + 16 * above)
     → SumDigit 10 a b carry d ((a + 6 + b + carry) / 16) × (z ≡ x + y + (a + 6 + b + carry) / 16 + 6 * above)
-tens_step a b carry d x y z above a_small b_small bit d_small whole = elim (cases_lt (a + b + carry) 10) [
-  | inl less ↦
-      let none : (a + 6 + b + carry) / 16 ≡ 0 = omega arith in
-      (inl (less, omega arith, none), omega arith)
-  | inr more ↦
-      let one : (a + 6 + b + carry) / 16 ≡ 1 = omega arith in
-      (inr (more, omega arith, one), omega arith)
-]
+tens_step a b carry d x y z above a_small b_small bit d_small whole = search rules
 
 over : (d z weight out rest : ℕ) → d + 16 * z + (16 * weight) * out ≡ rest → d + 16 * (z + weight * out) ≡ rest
 over d z weight out rest whole = omega (arith, whole)
@@ -220,17 +208,7 @@ carry_word-le (a ∷ x) (b ∷ y) carry p q same bit =
 pub total_small : (x y : List ℕ) (carry places : ℕ) → AllByRecursion (λ digit. digit < 10) x → AllByRecursion (λ digit. digit < 16) y
     → length x ≡ length y → length y ≤ places → carry ≤ 1
     → total_with_tens (value x) (value y) carry (ones (length y)) places < 2 * 16 ^ length y
-total_small x y carry places p q same few bit =
-    let first : value x ≤ 9 * ones (length y) = rw same at (nine_most x p) in
-    omega (
-      arith,
-      first,
-      fifteen_most y q,
-      bit,
-      fifteen_ones (length y),
-      tens_read x y carry places p q same few bit,
-      carry_word-le x y carry p q same bit,
-    )
+total_small x y carry places p q same few bit = search (rules, nine_most, fifteen_most, fifteen_ones, tens_read, carry_word-le)
 
 -- The consequences of the test for a letter.
 pub no_carry : (answer : Bool) (carries : ℕ) → answer ≡ not (carries == 0) → answer ≡ false → carries ≡ 0
@@ -242,17 +220,7 @@ pub tens_of : (x y z : List ℕ) (carry out count places digits first second lim
     → length z ≡ count → count ≤ places → carry ≤ 1 → value z ≡ digits → first ≡ value x → second ≡ value y → limit ≡ 16 ^ count
     → mask ≡ ones count → digits + limit * out ≡ total_with_tens first second carry mask places → Steps (SumDigit 10) x y carry z count out
 tens_of x y z carry out count places digits first second limit mask p q r size_x
-    size_y size_z few bit is_z is_first is_second is_limit is_mask whole =
-    let read : tens (value x) (value y) carry (6 * ones (length y)) places ≡ carry_word (with_sixes x) y carry =
-    tens_read x y carry places p q (size_x ∙ sym size_y) (omega (arith, size_y, few)) bit in
-    let known : tens first second carry (6 * mask) places ≡ carry_word (with_sixes x) y carry =
-    rw (← is_first, ← is_second, size_y, ← is_mask) at read in
-    let told : digits + limit * out ≡ first + second + carry + 6 * carry_word (with_sixes x) y carry =
-    whole ∙ ap (λ n. first + second + carry + 6 * n) known in
-    let final : value z + 16 ^ length z * out ≡ value x + value y + carry + 6 * carry_word (with_sixes x) y carry =
-    rw (is_z, size_z, ← is_limit, ← is_first, ← is_second) told in
-    subst (λ n. Steps (SumDigit 10) x y carry z n out) size_z
-    (tens_steps x y z carry out p q r (size_x ∙ sym size_z) (size_y ∙ sym size_z) bit final)
+    size_y size_z few bit is_z is_first is_second is_limit is_mask whole = search (rules, tens_read, tens_steps)
 
 -- The digits of a span without a letter are decimal.
 pub part_decimal : (x : List ℕ) (lo hi number mask places : ℕ) → IsRegister 14 x → lo ≤ hi → hi < 14 → number ≡ value (part x lo hi)
@@ -265,10 +233,7 @@ part_decimal x lo hi number mask places register ordered inside is is_mask few n
 
 pub part_most : (x : List ℕ) (lo hi number mask : ℕ) → IsRegister 14 x → lo ≤ hi → hi < 14 → number ≡ value (part x lo hi)
     → mask ≡ ones (hi + 1 - lo) → AllByRecursion (λ digit. digit < 10) (part x lo hi) → number ≤ 9 * mask
-part_most x lo hi number mask register ordered inside is is_mask each =
-    let digits = part-register x lo hi register ordered inside in
-    let most : value (part x lo hi) ≤ 9 * ones (hi + 1 - lo) = rw digits.size at (nine_most (part x lo hi) each) in
-    omega (arith, is, is_mask, most)
+part_most x lo hi number mask register ordered inside is is_mask each = search (rules, part-register, nine_most)
 
 -- The result of a sum in base 10 that was written to a span.
 pub tens_result : (into x y z : List ℕ) (carry_in carry : Bool) (lo hi places digits first second limit mask : ℕ) → IsRegister 14 x
@@ -279,17 +244,7 @@ pub tens_result : (into x y z : List ℕ) (carry_in carry : Bool) (lo hi places 
     → drop (hi + 1) z ≡ drop (hi + 1) into → SumInto 10 into x y carry_in lo hi z carry
 tens_result into x y z carry_in carry lo hi places digits first second limit mask p q r
     ordered inside each is_z is_first is_second is_limit is_mask few whole below above =
-    let a = part-register x lo hi p ordered inside in
-    let b = part-register y lo hi q ordered inside in
-    let d = part-register z lo hi r ordered inside in
-    let steps =
-    tens_of (part x lo hi) (part y lo hi) (part z lo hi) (carry_digit carry_in) (carry_digit carry) (hi + 1 - lo)
-    places digits first second limit mask each (recursion_from_All _ _ b.each) (recursion_from_All _ _ d.each)
-    a.size b.size d.size few (carry_le carry_in) is_z is_first is_second is_limit is_mask whole in record {
-      register = r;
-      digits = has_carries (SumDigit 10) x y z lo hi (carry_digit carry_in) (carry_digit carry) (carry_le carry_in) ordered steps;
-      outside = keeps_outside into z lo hi below above;
-    }
+    search (rules, part-register, tens_of, recursion_from_All, carry_le, has_carries, keeps_outside)
 
 -- The totals of a span are small.
 pub part_total_small : (x y : List ℕ) (carry : Bool) (lo hi places : ℕ) → IsRegister 14 x → IsRegister 14 y → lo ≤ hi → hi < 14

@@ -1,6 +1,6 @@
 -- The numbers of a span's digits in their places: times the weight of its first place.
 use Rattle.std.proofs.Common.{◌≡◌, ℕ, zero, suc, ◌+◌, ◌-◌, ◌*◌, ◌/◌, ◌%◌, ◌^◌, ◌<◌, ◌≤◌, ◌==◌, Bool, true, false, not, nat_lt, List, refl}
-use Rattle.std.proofs.Common.{sym, ap, subst, arith, inl, inr, ◌∙◌}
+use Rattle.std.proofs.Common.{sym, ap, subst, arith, inl, inr, ◌∙◌, rules}
 use Rattle.std.proofs.Math.Nat.{pow-succ', mul-le-mul_right, mul-mod_left, mul-add-mod_self_right, mod-add-div, add-mod_right, mod-eq_of_lt}
 use Rattle.std.proofs.Math.Nat.{mul-div_cancel, div-div-eq-div-mul, mul_comm, mul_assoc, lt_of_mul-lt-mul_right}
 use Rattle.std.proofs.lemmas.Bool.{cases_lt, cases_eq}
@@ -41,10 +41,10 @@ sixteenth_at number n weight positive is =
 less_here : (a b weight : ℕ) → a < b → a * weight + weight ≤ b * weight
 less_here a b weight less = omega (arith, mul-le-mul_right {m = a + 1} {n = b} weight (omega arith))
 
-is_less_here : (a b : ℕ) → a < b → nat_lt a b ≡ true
+pub is_less_here : (a b : ℕ) → a < b → nat_lt a b ≡ true
 is_less_here a b less = grind (arith, nat_tests)
 
-not_less_here : (a b : ℕ) → b ≤ a → nat_lt a b ≡ false
+pub not_less_here : (a b : ℕ) → b ≤ a → nat_lt a b ≡ false
 not_less_here a b more = grind (arith, nat_tests)
 
 pub in_place-lt : (x y a b weight : ℕ) → 0 < weight → x ≡ a * weight → y ≡ b * weight → nat_lt x y ≡ nat_lt a b
@@ -207,10 +207,7 @@ xor_at a b lo = subst (λ weight. bit_xor (a * weight) (b * weight) ≡ bit_xor 
 
 -- Ones below the places of a number select nothing there.
 ones_at : (n places lo : ℕ) → bit_and (n * 16 ^ lo) (ones (places + lo)) ≡ bit_and n (ones places) * 16 ^ lo
-ones_at n places zero =
-    let all : places + 0 ≡ places = omega arith in
-    let once : n * 1 ≡ n = omega arith in
-    ap (λ k. bit_and k (ones (places + 0))) once ∙ ap (λ k. bit_and n (ones k)) all ∙ omega arith
+ones_at n places zero = search rules
 ones_at n places (suc lo) =
     let word = n * 16 ^ suc lo in
     let more : places + suc lo ≡ suc (places + lo) = omega arith in

@@ -1,6 +1,6 @@
 -- The places of a span as one number.
 use Rattle.std.proofs.Common.{if◌then◌else◌, ◌==◌, ◌≡◌, ℕ, suc, ◌+◌, ◌-◌, ◌*◌, ◌/◌, ◌%◌, ◌^◌, ◌<◌, ◌≤◌, List, [], ◌∷◌, ◌++◌, length, take}
-use Rattle.std.proofs.Common.{drop, slice_index, refl, sym, ap, subst, arith, inl, inr, ◌∙◌}
+use Rattle.std.proofs.Common.{drop, slice_index, refl, sym, ap, arith, inl, inr, ◌∙◌, ◌≢◌, rules}
 use Rattle.std.proofs.Math.Nat.{pow-succ'}
 use Rattle.std.proofs.lemmas.Nat.{mod-mul-add}
 use Rattle.std.proofs.lemmas.Bool.{cases_lt}
@@ -22,9 +22,7 @@ part digits lo hi = take (hi + 1 - lo) (drop lo digits)
 
 pub part_at : (digits : List ℕ) (lo hi place : ℕ) → lo ≤ place → place ≤ hi
     → slice_index digits place ≡ slice_index (part digits lo hi) (place - lo)
-part_at digits lo hi place from to =
-    sym (get_or-take (hi + 1 - lo) (drop lo digits) (place - lo) 0 (omega arith) ∙ get_or-drop lo digits (place - lo) 0
-    ∙ ap (slice_index digits) (omega arith))
+part_at digits lo hi place from to = search (rules, get_or-take, get_or-drop)
 
 pub part-register : (digits : List ℕ) (lo hi : ℕ) → IsRegister 14 digits → lo ≤ hi → hi < 14 → IsRegister (hi + 1 - lo) (part digits lo hi)
 part-register digits lo hi register ordered inside = record {
@@ -33,9 +31,7 @@ part-register digits lo hi register ordered inside = record {
 }
 
 pub part-lt : (digits : List ℕ) (lo hi : ℕ) → IsRegister 14 digits → lo ≤ hi → hi < 14 → value (part digits lo hi) < 16 ^ (hi + 1 - lo)
-part-lt digits lo hi register ordered inside =
-    let is = part-register digits lo hi register ordered inside in
-    rw is.size at (value-below (part digits lo hi) is.each)
+part-lt digits lo hi register ordered inside = search (rules, part-register, value-below)
 
 -- What was written is read, and the other digits do not change.
 pub keeps_outside : (into z : List ℕ) (lo hi : ℕ) → take lo z ≡ take lo into → drop (hi + 1) z ≡ drop (hi + 1) into
@@ -112,16 +108,11 @@ down digits lo hi = drop 1 (part digits lo hi) ++ 0 ∷ []
 
 pub up-value : (digits : List ℕ) (lo hi : ℕ) → IsRegister 14 digits → lo ≤ hi → hi < 14
     → value (part digits lo hi) * 16 % 16 ^ (hi + 1 - lo) ≡ value (up digits lo hi)
-up-value digits lo hi register ordered inside =
-    let size = span_size lo hi ordered in
-    ap (λ n. value (part digits lo hi) * 16 % 16 ^ n) size
-    ∙ up_value (part digits lo hi) (hi - lo)
-    (subst (λ n. IsRegister n (part digits lo hi)) size (part-register digits lo hi register ordered inside))
+up-value digits lo hi register ordered inside = search (rules, span_size, up_value, part-register)
 
 pub down-value : (digits : List ℕ) (lo hi : ℕ) → IsRegister 14 digits → lo ≤ hi → hi < 14
     → value (part digits lo hi) / 16 ≡ value (down digits lo hi)
-down-value digits lo hi register ordered inside =
-    down_value (part digits lo hi) (recursion_from_All _ (part digits lo hi) (part-register digits lo hi register ordered inside).each)
+down-value digits lo hi register ordered inside = search (rules, down_value, recursion_from_All, part-register)
 
 pub up-register : (digits : List ℕ) (lo hi : ℕ) → IsRegister 14 digits → lo ≤ hi → hi < 14 → IsRegister (hi + 1 - lo) (up digits lo hi)
 up-register digits lo hi register ordered inside =
@@ -141,8 +132,8 @@ down-register digits lo hi register ordered inside =
           (All-drop (λ digit. digit < 16) 1 (part digits lo hi) old.each) (omega arith);
     }
 
-up_above : (lo place digit : ℕ) → lo < place → digit ≡ (if place == lo then 0 else digit)
-up_above lo place digit above = grind (arith, nat_tests)
+up_other : (lo place digit : ℕ) → place ≢ lo → digit ≡ (if place == lo then 0 else digit)
+up_other lo place digit other = grind (arith, nat_tests)
 
 up_first : (lo place digit : ℕ) → place ≡ lo → 0 ≡ (if place == lo then 0 else digit)
 up_first lo place digit here = grind (arith, nat_tests)
@@ -154,7 +145,7 @@ up_at digits lo hi place from to = elim (cases_lt lo place) [
       let index : place - lo ≡ suc (place - lo - 1) = omega arith in
       ap (slice_index (up digits lo hi)) index ∙ get_or-take (hi - lo) (part digits lo hi) (place - lo - 1) 0 (omega arith)
       ∙ ap (slice_index (part digits lo hi)) (omega arith) ∙ sym (part_at digits lo hi (place - 1) (omega arith) (omega arith))
-      ∙ up_above lo place (slice_index digits (place - 1)) above
+      ∙ up_other lo place (slice_index digits (place - 1)) (omega arith)
   | inr here ↦
       let index : place - lo ≡ 0 = omega arith in
       ap (slice_index (up digits lo hi)) index ∙ up_first lo place (slice_index digits (place - 1)) (omega arith)
@@ -170,14 +161,11 @@ down_at digits lo hi place register inside from to =
           get_or_append_left (drop 1 (part digits lo hi)) (0 ∷ []) 0 (place - lo) (omega (arith, size))
           ∙ get_or-drop 1 (part digits lo hi) (place - lo) 0
           ∙ ap (slice_index (part digits lo hi)) (omega arith) ∙ sym (part_at digits lo hi (place + 1) (omega arith) (omega arith))
-          ∙ down_below hi place (slice_index digits (place + 1)) below
+          ∙ up_other hi place (slice_index digits (place + 1)) (omega arith)
       | inr here ↦
           get_or_at (drop 1 (part digits lo hi)) 0 [] 0 (place - lo) (omega (arith, size))
           ∙ up_first hi place (slice_index digits (place + 1)) (omega arith)
     ]
-  where
-    down_below : (hi place digit : ℕ) → place < hi → digit ≡ (if place == hi then 0 else digit)
-    down_below hi place digit below = grind (arith, nat_tests)
 
 -- A part of a number is below its limit.
 pub sixteenth : (number limit : ℕ) → number < limit → number / 16 < limit

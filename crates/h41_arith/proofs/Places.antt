@@ -1,5 +1,5 @@
 -- Registers whose digits are known place by place.
-use Rattle.std.proofs.Common.{if◌then◌else◌, ◌≡◌, ◌≢◌, ℕ, ◌+◌, ◌-◌, ◌<◌, ◌≤◌, true, false, not, ◌==◌, ◌&&◌, nat_le, List, length}
+use Rattle.std.proofs.Common.{if◌then◌else◌, ◌≡◌, ◌≢◌, ℕ, ◌+◌, ◌-◌, ◌<◌, ◌≤◌, true, false, not, ◌==◌, ◌&&◌, nat_le, List, length, rules}
 use Rattle.std.proofs.Common.{slice_index, ap, sym, arith, inl, inr, ◌∙◌}
 use Rattle.std.proofs.lemmas.List.{ext_get_or, get_or_past}
 use Rattle.std.specs.List.{range_with_len}
@@ -29,8 +29,7 @@ replaced_at into lo hi digit place within =
 
 length-replaced : (into : List ℕ) (lo hi : ℕ) (digit : ℕ → ℕ) → length (with_places into lo hi digit) ≡ 14
 unfolding with_places from_to
-length-replaced into lo hi digit =
-    length-map-range_with_len (λ place. if nat_le lo place && nat_le place hi then digit place else slice_index into place) 0 14
+length-replaced into lo hi digit = search (rules, length-map-range_with_len)
 
 within_span : (lo place hi : ℕ) → lo ≤ place → place ≤ hi → (nat_le lo place && nat_le place hi) ≡ true
 within_span lo place hi from to = grind (arith, nat_tests)
@@ -89,10 +88,10 @@ replaced_determined into z lo hi digit size inside = (
   λ same. rw same (has_digits into lo hi digit size inside),
 )
 
-not_same : (a b : ℕ) → a ≢ b → not (a == b) ≡ true
+pub not_same : (a b : ℕ) → a ≢ b → not (a == b) ≡ true
 not_same a b other = grind (arith, nat_tests)
 
-same : (a b : ℕ) → a ≡ b → not (a == b) ≡ false
+pub same : (a b : ℕ) → a ≡ b → not (a == b) ≡ false
 same a b equal = grind (arith, nat_tests)
 
 -- A place at which two registers differ.
@@ -111,28 +110,8 @@ different_at x y lo hi place from to other =
 pub same_throughout : (x y : List ℕ) (lo hi : ℕ) → ((place : ℕ) → lo ≤ place → place ≤ hi → slice_index x place ≡ slice_index y place)
     → is_different x y lo hi ≡ false
 unfolding is_different from_to
-same_throughout x y lo hi equal =
-    let test = λ (place : ℕ). not (slice_index x place == slice_index y place) in
-    list_any_none test (range_with_len lo (hi + 1 - lo)) (λ index d within.
-    let few : index < hi + 1 - lo = omega (arith, length-range_with_len lo (hi + 1 - lo)) in
-    ap test (get_or-range_with_len lo (hi + 1 - lo) index d few)
-    ∙ same (slice_index x (lo + index)) (slice_index y (lo + index)) (equal (lo + index) (omega arith) (omega arith)))
+same_throughout x y lo hi equal = search (rules, list_any_none, length-range_with_len, get_or-range_with_len, same)
 
 pub is_different_tells : DifferentAtAPlace
 unfolding is_different from_to
-is_different_tells x y lo hi = (
-  λ told.
-      let test = λ (place : ℕ). not (slice_index x place == slice_index y place) in
-      let found = Any-from_list_any test (range_with_len lo (hi + 1 - lo)) told in
-      let few : found.0 < hi + 1 - lo = omega (arith, found.2, length-range_with_len lo (hi + 1 - lo)) in
-      let there : found.1 ≡ lo + found.0 = sym found.3 ∙ get_or-range_with_len lo (hi + 1 - lo) found.0 found.1 few in (
-        found.1,
-        omega arith,
-        omega arith,
-        λ equal. true_not_false (sym found.4 ∙ same (slice_index x found.1) (slice_index y found.1) equal),
-      ),
-  λ place. different_at x y lo hi place.0 place.1 place.2 place.3,
-)
-  where
-    true_not_false : true ≡ false → ⊥
-    true_not_false h = cc
+is_different_tells x y lo hi = search (rules, Any-from_list_any, length-range_with_len, get_or-range_with_len, same, different_at)

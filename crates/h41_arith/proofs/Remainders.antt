@@ -1,8 +1,7 @@
 -- In base 10 a difference is that of the numbers, and six less at each digit that borrows.
 use Rattle.std.proofs.Common.{◌≡◌, ℕ, suc, zero, ◌+◌, ◌-◌, ◌*◌, ◌/◌, ◌%◌, ◌^◌, ◌<◌, ◌≤◌, Bool, List, [], ◌∷◌, length, take, drop, sym, ap}
-use Rattle.std.proofs.Common.{subst, arith, inl, inr, ◌∙◌}
+use Rattle.std.proofs.Common.{subst, arith, ◌∙◌, rules}
 use Rattle.std.proofs.Math.Nat.{pow-succ', mul-add-mod_self_right, mod-eq_of_lt, mod-add-div, mul_comm}
-use Rattle.std.proofs.lemmas.Bool.{cases_lt}
 use Rattle.std.proofs.lemmas.List.Elements.{recursion_from_All}
 use Rattle.std.specs.Int.RustNames.{bit_and, bit_xor}
 use Rattle.std.specs.List.{AllByRecursion}
@@ -31,21 +30,13 @@ borrow_bit : (x y left borrow half : ℕ) → borrow ≤ 1 → x + 2 * half ≡ 
 borrow_bit x y left borrow half bit is = omega (arith, last_of_xor (bit_xor x y) left, last_of_xor x y)
 
 pub even_with_borrow : (x y left borrow half : ℕ) → x + 2 * half ≡ left + y + borrow → bit_xor (bit_xor (bit_xor x y) borrow) left % 2 ≡ 0
-even_with_borrow x y left borrow half is =
-    omega (arith, last_of_xor (bit_xor (bit_xor x y) borrow) left, last_of_xor (bit_xor x y) borrow, last_of_xor x y)
+even_with_borrow x y left borrow half is = search (rules, last_of_xor)
 
 -- The lowest digit of a difference, and the difference of the other digits.
 lowest_digit : (a b borrow low up x y above : ℕ) → a < 16 → b < 16 → borrow ≤ 1 → low < 16
     → low + 16 * up + (b + 16 * y) + borrow ≡ a + 16 * x + 16 * above
     → (low + b + borrow ≡ a + 16 * borrow_of a b borrow) × (up + y + borrow_of a b borrow ≡ x + above)
-lowest_digit a b borrow low up x y above a_small b_small bit low_small whole = elim (cases_lt a (b + borrow)) [
-  | inl less ↦
-      let one : borrow_of a b borrow ≡ 1 = omega arith in
-      (omega arith, omega arith)
-  | inr more ↦
-      let none : borrow_of a b borrow ≡ 0 = omega arith in
-      (omega arith, omega arith)
-]
+lowest_digit a b borrow low up x y above a_small b_small bit low_small whole = search rules
 
 -- A number with one more digit, modulo a limit.
 mod_more : (r n weight : ℕ) → r < 16 → 0 < weight → (r + 16 * n) % (16 * weight) ≡ r + 16 * (n % weight)
@@ -59,8 +50,8 @@ mod_more r n weight small positive =
     turned : (q weight : ℕ) → q * (16 * weight) ≡ 16 * (weight * q)
     turned q weight = omega arith
 
-twice_more : (weight half more : ℕ) → more ≡ 16 * weight → 2 * (more * half) ≡ 16 * (2 * (weight * half))
-twice_more weight half more is = rw is (omega arith)
+weighted : (weight out more : ℕ) → more ≡ 16 * weight → more * out ≡ 16 * (weight * out)
+weighted weight out more is = rw is (omega arith)
 
 -- The bits of two numbers and of their difference determine the borrows, whatever the digits above them are.
 pub borrows_read : (x y : List ℕ) (borrow left half places : ℕ) → AllByRecursion (λ digit. digit < 16) x
@@ -77,7 +68,7 @@ borrows_read (a ∷ x) (b ∷ y) borrow left half (suc places) p q same few bit 
     let up = left / 16 in
     let weight = 16 ^ length y in
     let is_weight : 16 ^ suc (length y) ≡ 16 * weight = pow-succ' 16 (length y) in
-    let above : 2 * (16 ^ suc (length y) * half) ≡ 16 * (2 * (weight * half)) = twice_more weight half _ is_weight in
+    let above : 2 * (16 ^ suc (length y) * half) ≡ 16 * (2 * (weight * half)) = omega (arith, weighted weight half _ is_weight) in
     let is_left : left ≡ low + 16 * up = omega arith in
     let opened : low + 16 * up + (b + 16 * value y) + borrow ≡ a + 16 * value x + 16 * (2 * (weight * half)) =
     omega (arith, whole, above, is_left, value-cons a x, value-cons b y) in
@@ -124,22 +115,12 @@ six_left (a ∷ x) (b ∷ y) borrow left out p q same bit whole =
     let rest = six_left x y next up out p.1 q.1 (omega (arith, same)) next_bit step.1 in
     let six : 6 * next ≤ low = omega (arith, step.0, q.0, bit, next_bit) in
     omega (arith, is_left, rest, six)
-  where
-    weighted : (weight out more : ℕ) → more ≡ 16 * weight → more * out ≡ 16 * (weight * out)
-    weighted weight out more is = rw is (omega arith)
 
 -- The lowest digit of a difference in base 10.
 remainder_step : (a b borrow d x y z words above : ℕ) → a < 16 → b < 10 → borrow ≤ 1 → d < 16
     → d + 16 * z + 6 * (borrow_of a b borrow + 16 * words) + (b + 16 * y) + borrow ≡ a + 16 * x + 16 * above
     → DifferenceDigit 10 a b borrow d (borrow_of a b borrow) × (z + 6 * words + y + borrow_of a b borrow ≡ x + above)
-remainder_step a b borrow d x y z words above a_small b_small bit d_small whole = elim (cases_lt a (b + borrow)) [
-  | inl less ↦
-      let one : borrow_of a b borrow ≡ 1 = omega arith in
-      (inr (less, omega arith, one), omega arith)
-  | inr more ↦
-      let none : borrow_of a b borrow ≡ 0 = omega arith in
-      (inl (more, omega arith, none), omega arith)
-]
+remainder_step a b borrow d x y z words above a_small b_small bit d_small whole = search rules
 
 pub remainder_steps : (x y z : List ℕ) (borrow out : ℕ) → AllByRecursion (λ digit. digit < 16) x → AllByRecursion (λ digit. digit < 10) y
     → AllByRecursion (λ digit. digit < 16) z → length x ≡ length z → length y ≡ length z → borrow ≤ 1
@@ -160,9 +141,6 @@ remainder_steps (a ∷ x) (b ∷ y) (d ∷ z) borrow out p q r same_x same_y bit
     let next_bit = borrow_bit_of a b borrow p.0 (omega (arith, q.0)) bit in
     steps_more _ a b d x y z borrow next (length z) out step.0
     (remainder_steps x y z next out p.1 q.1 r.1 (omega (arith, same_x)) (omega (arith, same_y)) next_bit step.1)
-  where
-    weighted : (weight out more : ℕ) → more ≡ 16 * weight → more * out ≡ 16 * (weight * out)
-    weighted weight out more is = rw is (omega arith)
 
 -- Numbers below a limit that differ by a multiple of it are the same.
 same_below : (a b limit p q : ℕ) → a < limit → b < limit → a + p * limit ≡ b + q * limit → a ≡ b

@@ -1,6 +1,6 @@
 -- Sums and differences in base 10, as the code makes them of the numbers of a span in their places.
-use Rattle.std.proofs.Common.{◌≡◌, ℕ, zero, suc, ◌+◌, ◌-◌, ◌*◌, ◌/◌, ◌%◌, ◌^◌, ◌<◌, ◌≤◌, Bool, nat_lt, List, slice_index, length, take}
-use Rattle.std.proofs.Common.{drop, refl, sym, ap, subst, arith, inl, inr, ◌∙◌}
+use Rattle.std.proofs.Common.{◌≡◌, ℕ, ◌+◌, ◌-◌, ◌*◌, ◌/◌, ◌%◌, ◌^◌, ◌<◌, ◌≤◌, Bool, nat_lt, List, slice_index, length, take}
+use Rattle.std.proofs.Common.{drop, refl, sym, ap, subst, arith, inl, inr, ◌∙◌, rules}
 use Rattle.std.proofs.Math.Nat.{mul-le-mul_right, mul_assoc, mul_comm, pow-le-pow_right}
 use Rattle.std.proofs.lemmas.Bool.{cases_lt}
 use Rattle.std.proofs.lemmas.List.Elements.{recursion_from_All}
@@ -76,9 +76,7 @@ pub record Tells (operation : DigitOperation) (x y : List ℕ) (carry_in : Bool)
 
 -- The total of digits that were computed place by place.
 below_twice_limit : (digits limit carry : ℕ) → digits < limit → carry ≤ 1 → digits + limit * carry < 2 * limit
-below_twice_limit digits limit zero small bit = omega (arith, small)
-below_twice_limit digits limit (suc carry) small bit =
-    let one : carry ≡ 0 = omega (arith, bit) in rw one (omega (arith, small))
+below_twice_limit digits limit carry small bit = grind arith
 
 pub rule_tells : (operation : DigitOperation) (x y : List ℕ) (carry_in : Bool) (lo hi total : ℕ) → lo ≤ hi → hi < 14
     → IsRuleTotal operation x y carry_in lo hi total → Tells operation x y carry_in lo hi total
@@ -215,7 +213,4 @@ total_with digits lo hi number next ordered is is_next =
 
 pub total_without : (digits : List ℕ) (lo hi number : ℕ) → number ≡ value_between digits lo hi * 16 ^ lo
     → number ≡ (value_between digits lo hi + 16 ^ (hi + 1 - lo) * 0) * 16 ^ lo
-total_without digits lo hi number is = is ∙ opened (value_between digits lo hi) (16 ^ (hi + 1 - lo)) (16 ^ lo)
-  where
-    opened : (n limit weight : ℕ) → n * weight ≡ (n + limit * 0) * weight
-    opened n limit weight = omega arith
+total_without digits lo hi number is = search rules

@@ -19,12 +19,10 @@ number_more base x lo count =
     ∙ ap (λ place. digits_number base x lo count + slice_index x (lo + count) * base ^ place) power
 
 digit_below : (base lo hi place : ℕ) (x : List ℕ) → hi < 14 → lo ≤ place → place ≤ hi → IsNumberIn base x lo hi → slice_index x place < base
-digit_below base lo hi place x inside from to (inl p) = omega (arith, p.0, digit_lt x place p.1 (omega arith))
-digit_below base lo hi place x inside from to (inr p) = omega (arith, p.0, p.1 place from to)
+digit_below base lo hi place x inside from to known = grind (arith, digit_lt)
 
 base_most : (base lo hi : ℕ) (x : List ℕ) → IsNumberIn base x lo hi → base ≤ 16
-base_most base lo hi x (inl p) = omega (arith, p.0)
-base_most base lo hi x (inr p) = omega (arith, p.0)
+base_most base lo hi x known = grind arith
 
 -- A sum with one more digit at the left.
 sum_digit : (base a b carry z out total_x total_y total_z weight first : ℕ) → base ≤ 16 → a < base → b < base → carry ≤ 1
@@ -52,12 +50,10 @@ difference_digit base a b borrow z out total_x total_y total_z weight first most
     rw digit.2 (omega (arith, all, lower))
 
 sum_bit : (base a b carry z out : ℕ) → SumDigit base a b carry z out → out ≤ 1
-sum_bit base a b carry z out (inl digit) = omega (arith, digit.2)
-sum_bit base a b carry z out (inr digit) = omega (arith, digit.2)
+sum_bit base a b carry z out known = grind arith
 
 difference_bit : (base a b borrow z out : ℕ) → DifferenceDigit base a b borrow z out → out ≤ 1
-difference_bit base a b borrow z out (inl digit) = omega (arith, digit.2)
-difference_bit base a b borrow z out (inr digit) = omega (arith, digit.2)
+difference_bit base a b borrow z out known = grind arith
 
 module _ (base lo hi : ℕ) (x y z : List ℕ) (first out : ℕ) (p : IsNumberIn base x lo hi)
     (q : IsNumberIn base y lo hi) (inside : hi < 14) where

@@ -1,9 +1,9 @@
 -- The list of the words of all banks changes with what is plugged, unplugged and written.
-use Rattle.std.proofs.Common.{◌≡◌, ◌≢◌, ◌⊎◌, ℕ, ◌+◌, ◌-◌, ◌*◌, ◌<◌, ◌≤◌, Bool, true, false, if◌then◌else◌, List, [], Option, Some, None}
-use Rattle.std.proofs.Common.{◌++◌, take, drop, length, replicate, arith, refl, sym, ap, ◌∙◌, inl, inr, get_or-set_other, length-set}
+use Rattle.std.proofs.Common.{◌≡◌, ◌≢◌, ◌⊎◌, ℕ, ◌+◌, ◌-◌, ◌*◌, ◌<◌, ◌≤◌, Bool, false, List, [], Option, Some, None}
+use Rattle.std.proofs.Common.{◌++◌, take, length, replicate, arith, refl, sym, ap, ◌∙◌, inl, inr, get_or-set_other, length-set, rules}
 use Rattle.std.proofs.Common.{slice_set, slice_index_or}
-use Rattle.std.specs.Prelude.{slice_index, option_map, Err}
-use Rattle.std.proofs.lemmas.Bool.{cases_eq, cases_lt}
+use Rattle.std.specs.Prelude.{slice_index, option_map}
+use Rattle.std.proofs.lemmas.Bool.{cases_eq}
 use Rattle.std.proofs.lemmas.List.{get_or_append_left, get_or-append_right, get_or-take, get_or-drop, get_or-replicate, length-append}
 use Rattle.std.proofs.lemmas.List.{length-drop, length-replicate, length-take-le}
 use Rattle.std.proofs.Math.Seq.{take-nil}
@@ -14,10 +14,9 @@ use Rattle.h41_words.specs.declared.rows.Bank.TheVariants.{First, Second, Third,
 use Rattle.h41_pages.specs.Addresses.{page_count, page_size, page_of, offset_of, first_page, last_page, is_system}
 use Rattle.h41_pages.specs.private.AddressSpace.{address_count, space_size, nothing, page_place, word_place, empty_space, with_page}
 use Rattle.h41_pages.specs.private.AddressSpace.{without_bank, without_page, fetched_from, number_of, IsSpaceOf, IsPages}
-use Rattle.h41_pages.specs.PageMap.{PageMap, PageImage, no_banks, no_pages, word_in, with_page_image, without_images, written}
+use Rattle.h41_pages.specs.PageMap.{PageMap, PageImage, no_banks, no_pages, with_page_image, without_images, written}
 use Rattle.h41_pages.specs.PageMap.{chosen_at, chosen_image, bank_place, bank_numbered, image_at, with_first_banks, with_word, plug_refusal}
-use Rattle.h41_pages.specs.PageMap.{write_refusal, banks_at, fetched}
-use Rattle.h41_pages.specs.declared.refusal.FetchRefusal.TheVariants.{SystemRom}
+use Rattle.h41_pages.specs.PageMap.{write_refusal, fetched}
 use Rattle.h41_pages.proofs.OtherPages.{bank_below, own_banks, own_changed, others_changed, unplugging_keeps}
 use Rattle.h41_pages.proofs.PageMaps.{none_plugged, none_held, none_is_page_map, plugged_held}
 use Rattle.h41_pages.proofs.PageMaps.{page_changed, image_changed, choice_changed, choices_cleared, word_changed}
@@ -26,10 +25,7 @@ use Rattle.h41_pages.proofs.WrittenWords.{pluggable, image_size, outside_system,
 -- A list that was filled with equal numbers.
 pub filled : (items : List ℕ) (spare count number : ℕ) → items ≡ [] → spare ≡ 0
     → take count items ++ replicate (count - spare) number ≡ replicate count number
-filled items spare count number none short =
-    ap (λ list. take count list ++ replicate (count - spare) number) none
-    ∙ ap (λ list. list ++ replicate (count - spare) number) (take-nil count)
-    ∙ ap (λ n. replicate n number) (omega (arith, short))
+filled items spare count number none short = search (rules, take-nil)
 
 -- The position of the word at an address of a bank.
 page_is : (bank : Bank) (address : ℕ) → address < address_count → page_of (word_place bank address) ≡ page_place bank (page_of address)
@@ -45,71 +41,33 @@ inside bank page below = omega (arith, below, bank_below bank)
 pub read_in_page : (numbers words : List ℕ) (page place : ℕ) → length numbers ≡ space_size → length words ≡ page_size
     → page < 64 → page_of place ≡ page
     → slice_index_or (with_page numbers page words) place 0 ≡ slice_index_or words (offset_of place) 0
-read_in_page numbers words page place whole size below here =
-    let start = page * page_size in
-    let front : length (take start numbers) ≡ start = length-take-le start numbers (omega (arith, whole, below)) in
-    let inside : place - start < length words = omega (arith, size, here) in
-    let same : place - start ≡ offset_of place = omega (arith, here) in
-    get_or-append_right (take start numbers) (words ++ drop (start + page_size) numbers) start place 0 front (omega (arith, here))
-    ∙ get_or_append_left words (drop (start + page_size) numbers) 0 (place - start) inside
-    ∙ ap (λ at. slice_index_or words at 0) same
+read_in_page numbers words page place whole size below here = search (rules, length-take-le, get_or-append_right, get_or_append_left)
 
 -- Elsewhere, the earlier numbers are read.
 outside : (numbers words : List ℕ) (page place : ℕ) → length numbers ≡ space_size → length words ≡ page_size → page < 64
     → page_of place ≢ page → (place < page * page_size) ⊎ (page * page_size ≤ place)
     → slice_index_or (with_page numbers page words) place 0 ≡ slice_index_or numbers place 0
-outside numbers words page place whole size below apart (inl before) =
-    let start = page * page_size in
-    let front : length (take start numbers) ≡ start = length-take-le start numbers (omega (arith, whole, below)) in
-    get_or_append_left (take start numbers) (words ++ drop (start + page_size) numbers) 0 place (omega (arith, front, before))
-    ∙ get_or-take start numbers place 0 before
-outside numbers words page place whole size below apart (inr from) =
-    let start = page * page_size in
-    let front : length (take start numbers) ≡ start = length-take-le start numbers (omega (arith, whole, below)) in
-    let behind : start + page_size ≤ place = past page place apart from in
-    get_or-append_right (take start numbers) (words ++ drop (start + page_size) numbers) start place 0 front from
-    ∙ get_or-append_right words (drop (start + page_size) numbers) page_size (place - start) 0 size (omega (arith, behind))
-    ∙ get_or-drop (start + page_size) numbers (place - start - page_size) 0
-    ∙ ap (λ at. slice_index_or numbers at 0) (again start place behind)
-  where
-    past : (page place : ℕ) → page_of place ≢ page → page * page_size ≤ place → page * page_size + page_size ≤ place
-    past page place apart from = omega (arith, apart, from)
-
-    again : (start place : ℕ) → start + page_size ≤ place → start + page_size + (place - start - page_size) ≡ place
-    again start place behind = omega (arith, behind)
+outside numbers words page place whole size below apart (inl before) = search (rules, length-take-le, get_or_append_left, get_or-take)
+outside numbers words page place whole size below apart (inr from) = search (rules, length-take-le, get_or-append_right, get_or-drop)
 
 pub read_elsewhere : (numbers words : List ℕ) (page place : ℕ) → length numbers ≡ space_size → length words ≡ page_size
     → page < 64 → page_of place ≢ page
     → slice_index_or (with_page numbers page words) place 0 ≡ slice_index_or numbers place 0
-read_elsewhere numbers words page place whole size below apart =
-    outside numbers words page place whole size below apart (cases_lt place (page * page_size))
+read_elsewhere numbers words page place whole size below apart = search (rules, outside)
 
 -- Writing a page does not change the length of the list.
 pub count_with_page : (numbers words : List ℕ) (page : ℕ) → length numbers ≡ space_size → length words ≡ page_size → page < 64
     → length (with_page numbers page words) ≡ space_size
-count_with_page numbers words page whole size below =
-    let start = page * page_size in
-    let front : length (take start numbers) ≡ start = length-take-le start numbers (omega (arith, whole, below)) in
-    let rest : length (drop (start + page_size) numbers) ≡ space_size - (start + page_size) =
-    length-drop (start + page_size) numbers ∙ ap (λ n. n - (start + page_size)) whole in
-    length-append (take start numbers) (words ++ drop (start + page_size) numbers)
-    ∙ ap (λ n. length (take start numbers) + n) (length-append words (drop (start + page_size) numbers))
-    ∙ omega (arith, front, size, rest, below)
+count_with_page numbers words page whole size below = search (rules, length-take-le, length-drop, length-append)
 
 -- The number at an address without an image, and with one outside the system's pages.
 nothing_there : (address : ℕ) (image : Option PageImage) → image ≡ None → number_of (fetched_from address image) ≡ nothing
-nothing_there address image none = ap (λ i. number_of (fetched_from address i)) none ∙ either (is_system address)
-  where
-    either : (system : Bool) → number_of (if system then Err (SystemRom address) else word_in address None) ≡ nothing
-    either true = refl
-    either false = refl
+nothing_there address image none = search rules
 
 word_there : (address : ℕ) (image : Option PageImage) (words : List ℕ) (writable : Bool) → is_system address ≡ false
     → image ≡ Some (record { words = words; writable = writable })
     → number_of (fetched_from address image) ≡ slice_index words (offset_of address)
-word_there address image words writable held some =
-    ap (λ system. number_of (if system then Err (SystemRom address) else word_in address image)) held
-    ∙ ap (λ i. number_of (word_in address i)) some
+word_there address image words writable held some = search rules
 
 -- If nothing is plugged, there are no words.
 pub space_at_start : IsSpaceOf no_pages empty_space
@@ -130,28 +88,9 @@ plugged_at : (pages : PageMap) (numbers : List ℕ) (page number : ℕ) (writabl
     → slice_index (with_page numbers (page_place (bank_numbered number) page) words) (word_place bank address)
     ≡ number_of (fetched_from address (image_at (with_page_image pages page number writable words) (page_of address) bank))
 plugged_at pages numbers page number writable words bank address is size low high below (inl here) =
-    let own = bank_numbered number in
-    let its_page : page_of address ≡ page = omega (arith, here, below, high) in
-    let its_bank : bank_place bank ≡ bank_place own = omega (arith, here, below, high) in
-    read_in_page numbers words (page_place own page) (word_place bank address) is.size size (inside own page (omega (arith, high)))
-    (page_is bank address below ∙ here)
-    ∙ ap (λ at. slice_index_or words at 0) (offset_is bank address)
-    ∙ sym (word_there address (image_at (with_page_image pages page number writable words) (page_of address) bank) words writable
-    (outside_system address (omega (arith, its_page, low)))
-    (ap (λ at. image_at (with_page_image pages page number writable words) at bank) its_page
-    ∙ own_changed pages page own bank _ is.map (omega (arith, high)) its_bank))
+    search (rules, read_in_page, inside, page_is, offset_is, word_there, outside_system, own_changed)
 plugged_at pages numbers page number writable words bank address is size low high below (inr apart) =
-    let own = bank_numbered number in
-    read_elsewhere numbers words (page_place own page) (word_place bank address) is.size size (inside own page (omega (arith, high)))
-    (λ same. apart (sym (page_is bank address below) ∙ same))
-    ∙ is.space bank address below
-    ∙ sym (ap (λ image. number_of (fetched_from address image))
-    (others_changed pages page (page_of address) own bank _ (differs (cases_eq (page_of address) page))))
-  where
-    differs : (page_of address ≡ page) ⊎ (page_of address ≢ page)
-        → (page_of address ≢ page) ⊎ (bank_place bank ≢ bank_place (bank_numbered number))
-    differs (inl same) = inr (λ places. apart (omega (arith, same, places)))
-    differs (inr different) = inl different
+    search (rules, read_elsewhere, inside, page_is, others_changed, cases_eq)
 
 pub space_plugged : (pages : PageMap) (numbers : List ℕ) (page number : ℕ) (writable : Bool) (words : List ℕ) → IsPages pages numbers
     → plug_refusal pages page number words ≡ None
@@ -182,16 +121,11 @@ still_empty : (numbers : List ℕ) (cleared bank : Bank) (page address : ℕ) �
     → address < address_count → page_of address ≡ page → slice_index numbers (word_place bank address) ≡ nothing
     → (bank_place bank ≡ bank_place cleared) ⊎ (bank_place bank ≢ bank_place cleared)
     → slice_index (without_bank numbers cleared page) (word_place bank address) ≡ nothing
-still_empty numbers cleared bank page address whole below in_space here none (inl same) =
-    own_emptied numbers cleared bank page address whole below in_space here same
-still_empty numbers cleared bank page address whole below in_space here none (inr apart) =
-    kept_elsewhere numbers cleared bank page address whole below in_space (λ same. apart (omega (arith, here, same))) ∙ none
+still_empty numbers cleared bank page address whole below in_space here none known = grind (arith, own_emptied, kept_elsewhere)
 
 count_emptied : (numbers : List ℕ) (cleared : Bank) (page : ℕ) → length numbers ≡ space_size → page < page_count
     → length (without_bank numbers cleared page) ≡ space_size
-count_emptied numbers cleared page whole below =
-    count_with_page numbers (replicate page_size nothing) (page_place cleared page) whole (length-replicate page_size nothing)
-    (inside cleared page below)
+count_emptied numbers cleared page whole below = search (rules, count_with_page, length-replicate, inside)
 
 -- The list after a page was unplugged.
 module _ (numbers : List ℕ) (page : ℕ) (whole : length numbers ≡ space_size) (below : page < page_count) where
@@ -234,13 +168,7 @@ module _ (numbers : List ℕ) (page : ℕ) (whole : length numbers ≡ space_siz
 
   others_left : (bank : Bank) (address : ℕ) → address < address_count → page_of address ≢ page
       → slice_index (without_page numbers page) (word_place bank address) ≡ slice_index numbers (word_place bank address)
-  others_left bank address in_space apart =
-      let differs : (cleared : Bank) → page_place bank (page_of address) ≢ page_place cleared page =
-      λ cleared same. apart (omega (arith, below, in_space, same)) in
-      kept_elsewhere three Fourth bank page address size_three below in_space (differs Fourth)
-      ∙ kept_elsewhere two Third bank page address size_two below in_space (differs Third)
-      ∙ kept_elsewhere one Second bank page address size_one below in_space (differs Second)
-      ∙ kept_elsewhere numbers First bank page address whole below in_space (differs First)
+  others_left bank address in_space apart = search (rules, kept_elsewhere, size_three, size_two, size_one)
 
 unplugged_at : (pages : PageMap) (numbers : List ℕ) (page : ℕ) (bank : Bank) (address : ℕ) → IsPages pages numbers → page < page_count
     → address < address_count → (page_of address ≡ page) ⊎ (page_of address ≢ page)
@@ -269,13 +197,7 @@ module _ (pages : PageMap) (numbers : List ℕ) (target word : ℕ) (is : IsPage
   image_after : (bank : Bank) (address : ℕ) → page_of address ≡ page_of target → bank_place bank ≡ bank_place chosen
       → image_at after (page_of address) bank ≡ option_map (with_word (offset_of target) word) (image_at pages (page_of address) bank)
   unfolding written
-  image_after bank address its_page its_bank =
-      let page = page_of target in
-      let changed = with_word (offset_of target) word in
-      ap (λ at. image_at after at bank) its_page
-      ∙ own_changed pages page chosen bank (option_map changed (chosen_image pages page)) is.map (omega (arith, in_space)) its_bank
-      ∙ ap (λ place. option_map changed (slice_index_or (banks_at pages page) place None)) (sym its_bank)
-      ∙ ap (λ at. option_map changed (image_at pages at bank)) (sym its_page)
+  image_after bank address its_page its_bank = search (rules, own_changed)
 
   same_chosen : fetched_from target (image_at after (page_of target) chosen) ≡ fetched_from target (chosen_image after (page_of target))
   unfolding written
@@ -284,10 +206,7 @@ module _ (pages : PageMap) (numbers : List ℕ) (target word : ℕ) (is : IsPage
   written_there : (bank : Bank) (address : ℕ) → write_refusal pages target ≡ None → address ≡ target → bank_place bank ≡ bank_place chosen
       → number_of (fetched_from address (image_at after (page_of address) bank)) ≡ word
   unfolding fetched
-  written_there bank address none its_address its_bank =
-      ap (λ place. number_of (fetched_from address (slice_index_or (banks_at after (page_of address)) place None))) its_bank
-      ∙ ap (λ at. number_of (fetched_from at (image_at after (page_of at) chosen))) its_address
-      ∙ ap number_of (same_chosen ∙ word_fetched pages target word is.map none)
+  written_there bank address none its_address its_bank = search (rules, same_chosen, word_fetched)
 
   same_place : (bank : Bank) (address : ℕ) → word_place bank address ≢ word_place chosen target
       → (page_of address ≡ page_of target) ⊎ (page_of address ≢ page_of target)
@@ -295,17 +214,7 @@ module _ (pages : PageMap) (numbers : List ℕ) (target word : ℕ) (is : IsPage
       → number_of (fetched_from address (image_at after (page_of address) bank))
       ≡ number_of (fetched_from address (image_at pages (page_of address) bank))
   unfolding written
-  same_place bank address apart (inl its_page) (inl its_bank) =
-      ap (λ image. number_of (fetched_from address image)) (image_after bank address its_page its_bank)
-      ∙ ap (λ answer. number_of (if is_system address then Err (SystemRom address) else answer))
-      (other_word address (offset_of target) word (image_at pages (page_of address) bank)
-      (λ same. apart (omega (arith, its_page, its_bank, same))))
-  same_place bank address apart (inr different) either =
-      ap (λ image. number_of (fetched_from address image))
-      (others_changed pages (page_of target) (page_of address) chosen bank _ (inl different))
-  same_place bank address apart (inl its_page) (inr different) =
-      ap (λ image. number_of (fetched_from address image))
-      (others_changed pages (page_of target) (page_of address) chosen bank _ (inr different))
+  same_place bank address apart known either = grind (arith, image_after, other_word, others_changed)
 
   written_at : (bank : Bank) (address : ℕ) → write_refusal pages target ≡ None → address < address_count
       → (word_place bank address ≡ word_place chosen target) ⊎ (word_place bank address ≢ word_place chosen target)
@@ -353,8 +262,7 @@ pages_unplugged pages numbers page is below =
 -- Activating a bank changes no word.
 pub pages_chosen : (pages : PageMap) (numbers : List ℕ) (page : ℕ) (bank : Bank) → IsPages pages numbers
     → IsPages (record pages { chosen = slice_set pages.chosen page bank }) numbers
-pages_chosen pages numbers page bank is =
-    record { map = choice_changed pages page bank is.map; size = is.size; space = is.space }
+pages_chosen pages numbers page bank is = search (rules, choice_changed)
 
 pub pages_with_first_banks : (pages : PageMap) (numbers : List ℕ) → IsPages pages numbers → IsPages (with_first_banks pages) numbers
 pages_with_first_banks pages numbers is = record { map = choices_cleared pages is.map; size = is.size; space = is.space }

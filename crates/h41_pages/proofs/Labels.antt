@@ -1,5 +1,5 @@
 -- Keystroke code begins with a label exactly if its bytes say so.
-use Rattle.std.proofs.Common.{◌≡◌, ℕ, suc, zero, ◌+◌, ◌-◌, ◌*◌, ◌<◌, ◌≤◌, ◌↔◌, Bool, true, false, List, [], ◌∷◌, ◌++◌, map}
+use Rattle.std.proofs.Common.{◌≡◌, ℕ, suc, zero, ◌+◌, ◌-◌, ◌*◌, ◌<◌, ◌≤◌, ◌↔◌, Bool, true, List, [], ◌∷◌, ◌++◌, map, rules}
 use Rattle.std.proofs.Common.{length, take, drop, Option, Some, None, Result, Ok, Err, refl, sym, ◌∙◌, ap, subst, arith, length-append}
 use Rattle.std.proofs.Common.{length-take-le, take-append-drop}
 use Rattle.std.specs.Bool.{then_some}
@@ -21,8 +21,7 @@ are_bytes (word ∷ words) (suc count) (suc index) inside = are_bytes words coun
 
 -- A test that passes has the tested value.
 taken : (b : Bool) (name own : List ℕ) → then_some b own ≡ Some name → (b ≡ true) × (own ≡ name)
-taken true name own same = (refl, cc)
-taken false name own same = cc
+taken b name own same = grind arith
 
 -- The four bytes before a name, and the name.
 front : (first second third key : ℕ) (behind : List ℕ) (n : ℕ) → n ≤ length behind
@@ -60,20 +59,11 @@ has_label [] name same = cc
 has_label (a ∷ []) name same = cc
 has_label (a ∷ b ∷ []) name same = cc
 has_label (a ∷ b ∷ c ∷ []) name same = cc
-has_label (a ∷ b ∷ c ∷ d ∷ words) name same =
-    let third = code_byte c in
-    let behind = map code_byte words in
-    let is = taken (is_label (code_byte a) third behind) name (take (third - 0xF1) behind) same in
-    begins (code_byte a) (code_byte b) third (code_byte d) behind name (omega arith) (omega arith) (omega arith) is.0 is.1
-    (subst (λ (own : List ℕ). IsBytes own) is.1 (are_bytes words (third - 0xF1)))
+has_label (a ∷ b ∷ c ∷ d ∷ words) name same = search (rules, taken, begins, are_bytes)
 
 -- Bytes that begin with a label have its name.
 spelled : (link key : ℕ) (name rest : List ℕ) → link < 3584 → label_name (spelling (GlobalLabel link key name) ++ rest) ≡ Some name
-spelled link key name rest fits =
-    let is : is_label (link_high link) (0xF1 + length name) (name ++ rest) ≡ true =
-    grind (arith, common_steps, length-append name rest) in
-    ap (λ b. then_some b (take (0xF1 + length name - 0xF1) (name ++ rest))) is
-    ∙ ap Some (take_at name rest (0xF1 + length name - 0xF1) (omega arith))
+spelled link key name rest fits = search (rules, common_steps, length-append, take_at)
 
 pub label_has : (bytes name : List ℕ) → BeginsLabel bytes name → label_name bytes ≡ Some name
 label_has bytes name (link, key, count, label) =
@@ -86,12 +76,10 @@ name_read (Ok found) = name_of found.0
 name_read (Err fault) = None
 
 label_line : (line : Line) (name : List ℕ) → name_of line ≡ Some name → (link : ℕ) × (key : ℕ) × (line ≡ GlobalLabel link key name)
-label_line (GlobalLabel link key own) name same = (link, key, cc)
-label_line line name same = cc
+label_line line name same = grind arith
 
 none_read : (line : Line) (own : Option (List ℕ)) → name_of line ≡ own → ((name : List ℕ) → own ≡ Some name → ⊥) → name_of line ≡ None
-none_read line None same none = same
-none_read line (Some name) same none = absurd (none name refl)
+none_read line own same none = grind arith
 
 -- The name of the line that was read is that of the code.
 named : {E : Type 0} (words : List ℕ) (result : Result (Line × ℕ) E)

@@ -1,5 +1,5 @@
 -- The offsets where keystroke functions begin, one entry more at a time.
-use Rattle.std.proofs.Common.{◌≡◌, ℕ, suc, zero, ◌+◌, ◌<◌, ◌≤◌, true, false, List, [], ◌∷◌, ◌++◌, map, length, cond, ap, sym, ◌∙◌}
+use Rattle.std.proofs.Common.{◌≡◌, ℕ, suc, zero, ◌+◌, ◌<◌, ◌≤◌, true, false, List, [], ◌∷◌, ◌++◌, map, length, cond, ap, sym, ◌∙◌, rules}
 use Rattle.std.proofs.Common.{arith, append-nil, length-append}
 use Rattle.std.specs.Prelude.{All}
 use Rattle.std.specs.List.{filter, range_with_len}
@@ -47,10 +47,4 @@ keystroke_more words entry offsets offset before is at below = record {
 
 pub microcode_more : (words : List ℕ) (entry : ℕ) (offsets : List ℕ) → AreOffsets words entry offsets
     → is_keystroke words entry ≡ false → AreOffsets words (entry + 1) offsets
-microcode_more words entry offsets before is = record {
-  items = before.items
-      ∙ sym (one_more words entry ∙ ap (λ b. offsets_before words entry ++ map (entry_offset words) (cond b (entry ∷ []) [])) is
-      ∙ append-nil (offsets_before words entry));
-  count = omega (arith, before.count);
-  bound = before.bound;
-}
+microcode_more words entry offsets before is = search (rules, one_more, append-nil)

@@ -1,25 +1,21 @@
 -- A change at one page, seen at it and at others.
-use Rattle.std.proofs.Common.{◌≡◌, ◌≢◌, ◌⊎◌, ℕ, ◌+◌, ◌<◌, ◌≤◌, Bool, true, false, List, [], Option, None, Err, if◌then◌else◌, length, arith}
-use Rattle.std.proofs.Common.{refl, sym, ap, ◌∙◌, inl, inr, get_or-set_other, get_or-set_same, slice_set, slice_index_or, is_some}
-use Rattle.std.proofs.lemmas.Bool.{cases_eq, cases_lt}
+use Rattle.std.proofs.Common.{◌≡◌, ◌≢◌, ◌⊎◌, ℕ, ◌<◌, ◌≤◌, Bool, List, [], Option, None, if◌then◌else◌, length, arith}
+use Rattle.std.proofs.Common.{refl, inl, inr, get_or-set_other, get_or-set_same, slice_set, slice_index_or, is_some, rules}
+use Rattle.std.proofs.lemmas.Bool.{cases_eq}
 use Rattle.std.proofs.lemmas.List.{set_past}
 use Rattle.h41_words.specs.declared.rows.Bank.{Bank}
-use Rattle.h41_words.specs.declared.rows.Bank.TheVariants.{First, Second, Third, Fourth}
-use Rattle.h41_pages.specs.Addresses.{page_of, is_system, page_count, page_size, offset_of, first_page}
+use Rattle.h41_words.specs.declared.rows.Bank.TheVariants.{First}
+use Rattle.h41_pages.specs.Addresses.{page_of, page_count, page_size, offset_of, first_page}
 use Rattle.h41_pages.specs.PageLaws.{address_in, PluggingKeepsOtherBanks, WritingKeepsOtherBanks, UnpluggingKeepsOtherBanks}
 use Rattle.h41_pages.specs.PageLaws.{ChoosingKeepsBanks}
-use Rattle.h41_pages.specs.PageMap.{PageMap, PageImage, IsPageMap, banks_at, chosen_at, chosen_image, bank_place, bank_numbered, fetched}
-use Rattle.h41_pages.specs.PageMap.{word_in, image_at, with_image, no_banks, written}
-use Rattle.h41_pages.specs.declared.refusal.FetchRefusal.TheVariants.{SystemRom}
+use Rattle.h41_pages.specs.PageMap.{PageMap, PageImage, IsPageMap, banks_at, chosen_at, chosen_image, bank_place, fetched}
+use Rattle.h41_pages.specs.PageMap.{word_in, image_at, with_image, written}
 
 -- A fetch depends only on the banks of its page and on its active bank.
 pub same_fetch : (pages others : PageMap) (address : ℕ) → banks_at pages (page_of address) ≡ banks_at others (page_of address)
     → chosen_at pages (page_of address) ≡ chosen_at others (page_of address) → fetched pages address ≡ fetched others address
 unfolding fetched
-same_fetch pages others address banks chosen =
-    ap (λ image. if is_system address then Err (SystemRom address) else word_in address image)
-    (ap (λ all. slice_index_or all (bank_place (chosen_at pages (page_of address))) None) banks
-    ∙ ap (λ bank. slice_index_or (banks_at others (page_of address)) (bank_place bank) None) chosen)
+same_fetch pages others address banks chosen = search rules
 
 -- Another page's banks.
 pub other_banks : (images : List (List (Option PageImage))) (banks : List (Option PageImage)) (page other : ℕ) → other ≢ page
@@ -40,72 +36,36 @@ pub own_image : (banks : List (Option PageImage)) (image : Option PageImage) (pl
 own_image banks image place below = rw get_or-set_same refl
 
 pub bank_below : (bank : Bank) → bank_place bank < 4
-bank_below First = omega arith
-bank_below Second = omega arith
-bank_below Third = omega arith
-bank_below Fourth = omega arith
+bank_below bank = grind arith
 
 -- A fetch in a page that can be plugged is from its active image.
 pub fetch_at : (pages : PageMap) (page offset : ℕ) (image : Option PageImage) → first_page ≤ page → offset < page_size
     → chosen_image pages page ≡ image → fetched pages (address_in page offset) ≡ word_in (address_in page offset) image
 unfolding fetched
-fetch_at pages page offset image first below here =
-    let address = address_in page offset in
-    let held : is_system address ≡ false = grind arith in
-    let its_page : page_of address ≡ page = omega arith in
-    ap (λ system. if system then Err (SystemRom address) else word_in address (chosen_image pages (page_of address))) held
-    ∙ ap (λ at. word_in address (chosen_image pages at)) its_page
-    ∙ ap (word_in address) here
+fetch_at pages page offset image first below here = search rules
 
 pub offset_in : (page offset : ℕ) → offset < page_size → offset_of (address_in page offset) ≡ offset
 offset_in page offset below = omega arith
 
 -- A bank is determined by its index.
 same_bank : (bank other : Bank) → bank_place bank ≡ bank_place other → bank ≡ other
-same_bank bank other same = sym (numbered bank) ∙ ap (λ place. bank_numbered (place + 1)) same ∙ numbered other
-  where
-    numbered : (bank : Bank) → bank_numbered (bank_place bank + 1) ≡ bank
-    numbered First = refl
-    numbered Second = refl
-    numbered Third = refl
-    numbered Fourth = refl
+same_bank bank other same = search rules
 
 -- The images of pages of which one has another image at a bank: that image, and every other one.
 pub own_changed : (pages : PageMap) (page : ℕ) (bank other : Bank) (image : Option PageImage) → IsPageMap pages → page < page_count
     → bank_place other ≡ bank_place bank → image_at (with_image pages page bank image) page other ≡ image
-own_changed pages page bank other image is below same =
-    let place = bank_place bank in
-    let size : length (banks_at pages page) ≡ 4 = is.banks page below in
-    ap (λ banks. slice_index_or banks (bank_place other) None)
-    (own_banks pages.images (slice_set (banks_at pages page) place image) page (omega (arith, is.images, below)))
-    ∙ ap (λ at. slice_index_or (slice_set (banks_at pages page) place image) at None) same
-    ∙ own_image (banks_at pages page) image place (omega (arith, size, bank_below bank))
+own_changed pages page bank other image is below same = search (rules, own_banks, own_image, bank_below)
 
 other_place : (pages : PageMap) (page : ℕ) (bank other : Bank) (image : Option PageImage) → bank_place other ≢ bank_place bank
     → (page < length pages.images) ⊎ (length pages.images ≤ page)
     → image_at (with_image pages page bank image) page other ≡ image_at pages page other
-other_place pages page bank other image apart (inl below) =
-    ap (λ banks. slice_index_or banks (bank_place other) None)
-    (own_banks pages.images (slice_set (banks_at pages page) (bank_place bank) image) page below)
-    ∙ other_image (banks_at pages page) image (bank_place bank) (bank_place other) apart
-  where
-    other_image : (banks : List (Option PageImage)) (image : Option PageImage) (place other : ℕ) → other ≢ place
-        → slice_index_or (slice_set banks place image) other None ≡ slice_index_or banks other None
-    other_image banks image place other different = rw get_or-set_other refl
-other_place pages page bank other image apart (inr above) =
-    ap (λ images. slice_index_or (slice_index_or images page []) (bank_place other) None)
-    (set_past pages.images page (slice_set (banks_at pages page) (bank_place bank) image) above)
+other_place pages page bank other image apart (inl below) = search (rules, own_banks, get_or-set_other)
+other_place pages page bank other image apart (inr above) = search (rules, set_past)
 
 in_page : (pages : PageMap) (page other : ℕ) (bank at : Bank) (image : Option PageImage)
     → (other ≢ page) ⊎ (bank_place at ≢ bank_place bank) → (other ≡ page) ⊎ (other ≢ page)
     → image_at (with_image pages page bank image) other at ≡ image_at pages other at
-in_page pages page other bank at image apart (inr different) =
-    ap (λ banks. slice_index_or banks (bank_place at) None) (other_banks pages.images _ page other different)
-in_page pages page other bank at image (inl different) (inl same) = absurd (different same)
-in_page pages page other bank at image (inr different) (inl same) =
-    ap (λ k. image_at (with_image pages page bank image) k at) same
-    ∙ other_place pages page bank at image different (cases_lt page (length pages.images))
-    ∙ ap (λ k. image_at pages k at) (sym same)
+in_page pages page other bank at image apart known = grind (arith, other_banks, other_place)
 
 pub others_changed : (pages : PageMap) (page other : ℕ) (bank at : Bank) (image : Option PageImage)
     → (other ≢ page) ⊎ (bank_place at ≢ bank_place bank)
@@ -113,29 +73,23 @@ pub others_changed : (pages : PageMap) (page other : ℕ) (bank at : Bank) (imag
 others_changed pages page other bank at image apart = in_page pages page other bank at image apart (cases_eq other page)
 
 by_bank : (page other : ℕ) (bank at : Bank) → (other ≢ page) ⊎ (at ≢ bank) → (other ≢ page) ⊎ (bank_place at ≢ bank_place bank)
-by_bank page other bank at (inl different) = inl different
-by_bank page other bank at (inr different) = inr (λ same. different (same_bank at bank same))
+by_bank page other bank at known = grind (arith, same_bank)
 
 -- Each call keeps the banks that it does not name.
 pub plugging_keeps : PluggingKeepsOtherBanks
-plugging_keeps pages page number writable words other bank apart =
-    others_changed pages page other (bank_numbered number) bank _ (by_bank page other (bank_numbered number) bank apart)
+plugging_keeps pages page number writable words other bank apart = search (rules, others_changed, by_bank)
 
 pub writing_keeps : WritingKeepsOtherBanks
 unfolding written
-writing_keeps pages address word other bank apart =
-    others_changed pages (page_of address) other (chosen_at pages (page_of address)) bank _
-    (by_bank (page_of address) other (chosen_at pages (page_of address)) bank apart)
+writing_keeps pages address word other bank apart = search (rules, others_changed, by_bank)
 
 pub unplugging_keeps : UnpluggingKeepsOtherBanks
-unplugging_keeps pages page other bank different =
-    ap (λ banks. slice_index_or banks (bank_place bank) None) (other_banks pages.images no_banks page other different)
+unplugging_keeps pages page other bank different = search (rules, other_banks)
 
 chosen_by : (plugged : Bool) (pages : PageMap) (page : ℕ) (chosen : Bank) (other : ℕ) (bank : Bank)
     → image_at (if plugged then record pages { chosen = slice_set pages.chosen page chosen } else pages) other bank
     ≡ image_at pages other bank
-chosen_by true pages page chosen other bank = refl
-chosen_by false pages page chosen other bank = refl
+chosen_by plugged pages page chosen other bank = grind arith
 
 pub choosing_keeps : ChoosingKeepsBanks
 choosing_keeps pages page chosen other bank = chosen_by (is_some (image_at pages page chosen)) pages page chosen other bank

@@ -1,6 +1,5 @@
 -- Consecutive numbers that a loop uses one at a time: the rest of a list, a search or a test after each number.
-use Rattle.std.proofs.Common.{◌≡◌, ℕ, suc, ◌+◌, ◌-◌, ◌<◌, ◌≤◌, Bool, true, false, List, [], ◌∷◌, ◌++◌, Some, None, cond, arith, ap, ◌∙◌}
-use Rattle.std.proofs.Common.{map}
+use Rattle.std.proofs.Common.{◌≡◌, ℕ, ◌+◌, ◌-◌, ◌<◌, ◌≤◌, Bool, true, false, List, [], ◌∷◌, ◌++◌, Some, None, arith, ap, map, rules}
 use Rattle.std.specs.List.{range_with_len, find, flat_map}
 use Rattle.h41_pages.specs.FunctionTables.{all_pages}
 
@@ -20,15 +19,11 @@ pages_up_to = up_to-zero 16
 -- The first number, and the numbers after it.
 pub up_to-step : (low high : ℕ) → low < high → up_to low high ≡ low ∷ up_to (low + 1) high
 unfolding up_to
-up_to-step low high below =
-    let e : high - low ≡ suc (high - (low + 1)) = omega arith in
-    ap (range_with_len low) e
+up_to-step low high below = search rules
 
 pub up_to-none : (low high : ℕ) → high ≤ low → up_to low high ≡ []
 unfolding up_to
-up_to-none low high above =
-    let e : high - low ≡ 0 = omega arith in
-    ap (range_with_len low) e
+up_to-none low high above = search rules
 
 -- A list that is made from these numbers.
 pub map-step : {X : Type 0} → (f : ℕ → X) (low high : ℕ) → low < high → map f (up_to low high) ≡ f low ∷ map f (up_to (low + 1) high)
@@ -46,12 +41,10 @@ flat_map-none f low high above = ap (flat_map f) (up_to-none low high above)
 
 -- A search among these numbers.
 pub find-skips : (p : ℕ → Bool) (low high : ℕ) → low < high → p low ≡ false → find p (up_to low high) ≡ find p (up_to (low + 1) high)
-find-skips p low high below fails =
-    ap (find p) (up_to-step low high below) ∙ ap (λ b. cond b (Some low) (find p (up_to (low + 1) high))) fails
+find-skips p low high below fails = search (rules, up_to-step)
 
 pub find-takes : (p : ℕ → Bool) (low high : ℕ) → low < high → p low ≡ true → find p (up_to low high) ≡ Some low
-find-takes p low high below passes =
-    ap (find p) (up_to-step low high below) ∙ ap (λ b. cond b (Some low) (find p (up_to (low + 1) high))) passes
+find-takes p low high below passes = search (rules, up_to-step)
 
 pub find-ends : (p : ℕ → Bool) (low high : ℕ) → high ≤ low → find p (up_to low high) ≡ None
 find-ends p low high above = ap (find p) (up_to-none low high above)

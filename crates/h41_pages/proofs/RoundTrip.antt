@@ -1,5 +1,5 @@
 -- The words of an image's bytes.
-use Rattle.std.proofs.Common.{◌≡◌, ℕ, zero, suc, ◌+◌, ◌*◌, ◌/◌, ◌%◌, List, [], ◌∷◌, length, arith, refl, ap, ◌∙◌, map, slice_index}
+use Rattle.std.proofs.Common.{◌≡◌, ℕ, zero, suc, ◌+◌, ◌*◌, ◌/◌, ◌%◌, List, [], ◌∷◌, length, arith, refl, ap, ◌∙◌, map, slice_index, rules}
 use Rattle.std.specs.List.{range_with_len}
 use Rattle.h41_pages.specs.Images.{image_bytes, word_in_bytes, first_words}
 
@@ -13,17 +13,12 @@ place_shifted : (high low : ℕ) (rest : List ℕ) (place other : ℕ) → other
 place_shifted high low rest place other same = ap (slice_index (high ∷ low ∷ rest)) same
 
 word_shifted : (high low : ℕ) (rest : List ℕ) (offset : ℕ) → word_in_bytes (high ∷ low ∷ rest) (offset + 1) ≡ word_in_bytes rest offset
-word_shifted high low rest offset =
-    ap (λ byte. byte * 256 + slice_index (high ∷ low ∷ rest) (2 * (offset + 1) + 1))
-    (place_shifted high low rest (2 * offset) (2 * (offset + 1)) (omega arith))
-    ∙ ap (λ byte. slice_index rest (2 * offset) * 256 + byte)
-    (place_shifted high low rest (2 * offset + 1) (2 * (offset + 1) + 1) (omega arith))
+word_shifted high low rest offset = search (rules, place_shifted)
 
 words_shifted : (high low : ℕ) (rest : List ℕ) (from count : ℕ)
     → map (word_in_bytes (high ∷ low ∷ rest)) (range_with_len (from + 1) count) ≡ map (word_in_bytes rest) (range_with_len from count)
 words_shifted high low rest from zero = refl
-words_shifted high low rest from (suc count) =
-    cons_with (word_shifted high low rest from) (words_shifted high low rest (from + 1) count)
+words_shifted high low rest from (suc count) = search (rules, cons_with, word_shifted, words_shifted high low rest (from + 1) count)
 
 -- The bytes of words spell these words.
 pub read_back : (words : List ℕ) → first_words (image_bytes words) (length words) ≡ words

@@ -1,5 +1,5 @@
 -- Searches for a function with a name in a list.
-use Rattle.std.proofs.Common.{◌≡◌, ℕ, true, false, List, ◌∷◌, ◌++◌, Option, Some, None, cond, refl, ap, ◌∙◌}
+use Rattle.std.proofs.Common.{◌≡◌, ℕ, true, false, List, ◌∷◌, ◌++◌, Option, Some, None, cond, ap, rules, arith}
 use Rattle.std.specs.List.{find}
 use Rattle.std.specs.Option.{option_map, option_or}
 use Rattle.std.proofs.lemmas.List.Folds.{find-append}
@@ -8,26 +8,20 @@ use Rattle.h41_pages.specs.declared.functions.ModuleFunction.{ModuleFunction}
 
 map-skips : {X Y : Type 0} (f : X → Y) → (first second : Option X) → option_map f first ≡ None
     → option_map f (option_or first second) ≡ option_map f second
-map-skips f None second none = refl
-map-skips f (Some x) second none = cc
+map-skips f first second none = grind arith
 
 map-takes : {X Y : Type 0} (f : X → Y) (y : Y) → (first second : Option X) → option_map f first ≡ Some y
     → option_map f (option_or first second) ≡ Some y
-map-takes f y None second some = cc
-map-takes f y (Some x) second some = some
+map-takes f y first second some = grind arith
 
 -- In two lists, one after the other: the function is in the second if the first has none, otherwise in the first.
 pub found_behind : (name : List ℕ) (first second : List ModuleFunction) → found_in name first ≡ None
     → found_in name (first ++ second) ≡ found_in name second
-found_behind name first second none =
-    ap (option_map numbers_of) (find-append (is_named name) first second)
-    ∙ map-skips numbers_of (find (is_named name) first) (find (is_named name) second) none
+found_behind name first second none = search (rules, find-append, map-skips)
 
 pub found_before : (name : List ℕ) (numbers : ℕ × ℕ) (first second : List ModuleFunction) → found_in name first ≡ Some numbers
     → found_in name (first ++ second) ≡ Some numbers
-found_before name numbers first second some =
-    ap (option_map numbers_of) (find-append (is_named name) first second)
-    ∙ map-takes numbers_of numbers (find (is_named name) first) (find (is_named name) second) some
+found_before name numbers first second some = search (rules, find-append, map-takes)
 
 -- A function that is not the first of a list.
 pub found_later : (name : List ℕ) (function : ModuleFunction) (others : List ModuleFunction) → is_named name function ≡ false

@@ -1,6 +1,6 @@
 -- The 24 bytes of ALPHA.
 use Rattle.std.proofs.Common.{◌≡◌, ℕ, ◌+◌, ◌-◌, ◌≤◌, min, List, ◌++◌, length, take, drop, replicate, length-append, inl, inr, refl, ap, sym}
-use Rattle.std.proofs.Common.{◌∙◌, arith}
+use Rattle.std.proofs.Common.{◌∙◌, arith, rules}
 use Rattle.std.proofs.lemmas.Bool.{cases_lt}
 use Rattle.std.proofs.lemmas.List.{append-nil, drop-append-le, drop-drop, drop_all, drop_at, length-drop, take_at, take_rest}
 use Rattle.h41_rows.specs.RowEffects.{last_24}
@@ -41,10 +41,7 @@ kept_and_new old text size = elim (cases_lt 24 (length text)) [
 -- A part that was written at the end.
 written_end : (front rest last : List ℕ) (a k : ℕ) → length front ≡ a → length (front ++ rest) ≤ a + k
     → put_mid a k (front ++ rest) last ≡ front ++ last
-written_end front rest last a k size most =
-    ap (λ (l : List ℕ). l ++ (last ++ post_of a k (front ++ rest))) (take_at front rest a size)
-    ∙ ap (λ (l : List ℕ). front ++ (last ++ l)) (drop_all k (drop a (front ++ rest)) (omega (arith, length-drop a (front ++ rest), most)))
-    ∙ ap (λ (l : List ℕ). front ++ l) (append-nil last)
+written_end front rest last a k size most = search (rules, post_of, take_at, drop_all, length-drop, append-nil)
 
 -- A text that was appended to another.
 pub put : (old text last front part : List ℕ) (from : ℕ) → length old ≡ 24 → from ≡ length text - 24
@@ -70,7 +67,4 @@ put old text last front part from size is_from is_last is_front is_part =
 
 -- The characters after the first six.
 pub past_six : (shown : List ℕ) (first : ℕ) → first ≡ min (length shown) 6 → take (length shown - first) (drop first shown) ≡ drop 6 shown
-past_six shown first is_first = take_rest shown first ∙ (elim (cases_lt (length shown) 6) [
-  | inl few ↦ drop_all first shown (omega (arith, is_first, few)) ∙ sym (drop_all 6 shown (omega (arith, few)))
-  | inr many ↦ let six : first ≡ 6 = omega (arith, is_first, many) in ap (λ n. drop n shown) six
-])
+past_six shown first is_first = search (rules, take_rest, drop_all)

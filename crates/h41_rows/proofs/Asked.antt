@@ -1,5 +1,5 @@
 -- The tests of numbers return the truth of their conditions.
-use Rattle.std.proofs.Common.{◌≡◌, ℕ, List, true, Bool, sym, ◌∙◌, ap, Option, Some, None, Result, Ok, Err}
+use Rattle.std.proofs.Common.{◌≡◌, ℕ, List, true, Bool, sym, ◌∙◌, ap, Option, Some, None, Result, Ok, Err, rules}
 use Rattle.std.specs.Prelude.{ℤ, pos, ◌&&◌, MatchBool, is_some}
 use Rattle.std.specs.Option.{option_map_or}
 use Rattle.h41_decimal.specs.Holding.{holding_of, number_in, worth}
@@ -12,10 +12,7 @@ asked_both : (g : ℤ → ℤ → Bool) (a b wa wb : Option ℤ) (result : Resul
     → result ≡ answer_of_comparison g a b
     → MatchBool (is_some a && (is_some b && true))
     (result ≡ Ok (g (option_map_or (λ n. n) wa (pos 0)) (option_map_or (λ n. n) wb (pos 0)))) (result ≡ Err AlphaData)
-asked_both g (Some x) (Some y) wa wb result ea eb e =
-    e
-    ∙ (ap (λ o. Ok (g x (option_map_or (λ n. n) o (pos 0)))) (sym eb)
-    ∙ ap (λ o. Ok (g (option_map_or (λ n. n) o (pos 0)) (option_map_or (λ n. n) wb (pos 0)))) (sym ea))
+asked_both g (Some x) (Some y) wa wb result ea eb e = search rules
 asked_both g a b wa wb result ea eb e = e
 
 asked_left : (g : ℤ → ℤ → Bool) (a wa : Option ℤ) (z : ℤ) (result : Result Bool LineFault) → wa ≡ a
@@ -36,24 +33,16 @@ pub registers_asked : (g : ℤ → ℤ → Bool) (x y : List ℕ) (a b : Option 
     → MatchBool (is_some (number_in x) && (is_some (number_in y) && true))
     (result ≡ Ok (g (option_map_or (λ n. n) (worth (holding_of x)) (pos 0)) (option_map_or (λ n. n) (worth (holding_of y)) (pos 0))))
     (result ≡ Err AlphaData)
-registers_asked g x y a b result ea eb e =
-    asked_both g (number_in x) (number_in y) (worth (holding_of x)) (worth (holding_of y)) result (worth-holding_of x) (worth-holding_of y)
-    (e
-    ∙ (ap (λ o. answer_of_comparison g o b) (ea ∙ worth-holding_of x)
-    ∙ ap (λ o. answer_of_comparison g (number_in x) o) (eb ∙ worth-holding_of y)))
+registers_asked g x y a b result ea eb e = search (rules, asked_both, worth-holding_of)
 
 pub register_below : (g : ℤ → ℤ → Bool) (x : List ℕ) (a : Option ℤ) (result : Result Bool LineFault) → a ≡ worth (holding_of x)
     → result ≡ answer_of_comparison g a (Some (pos 0))
     → MatchBool (is_some (number_in x) && true)
     (result ≡ Ok (g (option_map_or (λ n. n) (worth (holding_of x)) (pos 0)) (pos 0))) (result ≡ Err AlphaData)
-register_below g x a result ea e =
-    asked_left g (number_in x) (worth (holding_of x)) (pos 0) result (worth-holding_of x)
-    (e ∙ ap (λ o. answer_of_comparison g o (Some (pos 0))) (ea ∙ worth-holding_of x))
+register_below g x a result ea e = search (rules, asked_left, worth-holding_of)
 
 pub register_above : (g : ℤ → ℤ → Bool) (x : List ℕ) (a : Option ℤ) (result : Result Bool LineFault) → a ≡ worth (holding_of x)
     → result ≡ answer_of_comparison g (Some (pos 0)) a
     → MatchBool (is_some (number_in x) && true)
     (result ≡ Ok (g (pos 0) (option_map_or (λ n. n) (worth (holding_of x)) (pos 0)))) (result ≡ Err AlphaData)
-register_above g x a result ea e =
-    asked_right g (number_in x) (worth (holding_of x)) (pos 0) result (worth-holding_of x)
-    (e ∙ ap (λ o. answer_of_comparison g (Some (pos 0)) o) (ea ∙ worth-holding_of x))
+register_above g x a result ea e = search (rules, asked_right, worth-holding_of)

@@ -1,6 +1,6 @@
 -- The integer part and the fraction of a loop's counter.
 use Rattle.std.proofs.Common.{◌≡◌, ℕ, true, false, zero, suc, ◌+◌, ◌-◌, ◌*◌, ◌/◌, ◌%◌, ◌^◌, ◌<◌, ◌≤◌, ◌⊎◌, inl, inr, ⊎_elim, sym, ◌∙◌, ap}
-use Rattle.std.proofs.Common.{refl, subst, arith}
+use Rattle.std.proofs.Common.{refl, subst, arith, rules}
 use Rattle.std.specs.Prelude.{ℤ, pos, negsuc, ◌+ℤ◌, ◌-ℤ◌, unsigned_abs}
 use Rattle.std.proofs.Math.Nat.{mul-lt-mul_of_pos_right, pow-le-pow_right}
 use Rattle.std.proofs.lemmas.Nat.{pow-add}
@@ -51,18 +51,7 @@ signed_self (pos n) = refl
 signed_self (negsuc n) = refl
 
 pub fraction_size : (z rest : ℤ) → IsFraction z rest → unsigned_abs rest ≡ fraction_of z
-fraction_size z rest f =
-    let ones = f.integer.ones in
-    let low : ones * 10 ^ 108 ≤ unsigned_abs z = f.integer.whole.not_above in
-    let high : unsigned_abs z < (ones + 1) * 10 ^ 108 = f.integer.whole.next_above in
-    let n = unsigned_abs z in
-    let r : ℕ = n - ones * 10 ^ 108 in
-    let sum : r + ones * 10 ^ 108 ≡ n = omega arith in
-    let parts : z -ℤ f.part ≡ with_sign (sign_of z) n -ℤ with_sign (sign_of z) (ones * 10 ^ 108) =
-    ap (λ (t : ℤ). t -ℤ f.part) (signed_self z) ∙ ap (λ (t : ℤ). with_sign (sign_of z) n -ℤ t) f.integer.value in
-    let e : rest ≡ with_sign (sign_of z) r = f.rest ∙ (parts ∙ signed-sub (sign_of z) n (ones * 10 ^ 108) r sum) in
-    let same : r ≡ n % 10 ^ 108 = omega arith in
-    ap unsigned_abs e ∙ (unsigned_abs-signed (sign_of z) r ∙ same)
+fraction_size z rest f = search (rules, signed_self, signed-sub, unsigned_abs-signed)
 
 pub rest_size : (number rest : Ten) (sign : Sign) (x : Magnitude) → IsFraction (units number) (units rest) → rest ≡ Nonzero sign x
     → size x ≡ fraction_of (units number)
@@ -84,10 +73,7 @@ small_size m s below rest =
 
 small_with_fraction : (number : Ten) → 0 < fraction_of (units number) → unsigned_abs (units number) < 10 ^ 9 * 10 ^ 108
 small_with_fraction Zero some = omega arith
-small_with_fraction (Nonzero sign x) some =
-    let e : unsigned_abs (with_sign sign (size x)) ≡ size x = unsigned_abs-signed sign (size x) in
-    let rest : 0 < size x % 10 ^ 108 = subst (λ (t : ℕ). 0 < t % 10 ^ 108) e some in
-    subst (λ (t : ℕ). t < 10 ^ 9 * 10 ^ 108) (sym e) (small_size x.mantissa.digits x.exponent.biased x.mantissa.below rest)
+small_with_fraction (Nonzero sign x) some = search (rules, unsigned_abs-signed, small_size)
 
 pub few_ones : (number : Ten) (x : Magnitude) → size x ≡ fraction_of (units number) → unsigned_abs (units number) < 10 ^ 9 * 10 ^ 108
 few_ones number x same = small_with_fraction number (subst (λ (t : ℕ). 0 < t) same (size_pos x))
@@ -96,24 +82,12 @@ few_ones number x same = small_with_fraction number (subst (λ (t : ℕ). 0 < t)
 one_step : (s d : Sign) (q : ℕ) → with_ones (with_sign s q +ℤ with_sign d 1) 0 ≡ with_sign s (q * one) +ℤ with_sign d one
 one_step Plus Plus q = omega (arith, ints)
 one_step Plus Minus zero = omega (arith, ints)
-one_step Plus Minus (suc q) =
-    let e : with_sign Plus (suc q) +ℤ with_sign Minus 1 ≡ pos q = omega (arith, ints) in
-    let f : with_ones (pos q) 0 ≡ with_sign Plus (suc q * one) +ℤ with_sign Minus one = omega (arith, ints) in
-    ap (λ (k : ℤ). with_ones k 0) e ∙ f
+one_step Plus Minus (suc q) = search (rules, ints)
 one_step Minus Plus zero = omega (arith, ints)
-one_step Minus Plus (suc zero) =
-    let e : with_sign Minus (suc zero) +ℤ with_sign Plus 1 ≡ pos 0 = omega (arith, ints) in
-    let f : with_ones (pos 0) 0 ≡ with_sign Minus (suc zero * one) +ℤ with_sign Plus one = omega (arith, ints) in
-    ap (λ (k : ℤ). with_ones k 0) e ∙ f
-one_step Minus Plus (suc (suc q)) =
-    let e : with_sign Minus (suc (suc q)) +ℤ with_sign Plus 1 ≡ negsuc q = omega (arith, ints) in
-    let f : with_ones (negsuc q) 0 ≡ with_sign Minus (suc (suc q) * one) +ℤ with_sign Plus one = omega (arith, ints) in
-    ap (λ (k : ℤ). with_ones k 0) e ∙ f
+one_step Minus Plus (suc zero) = search (rules, ints)
+one_step Minus Plus (suc (suc q)) = search (rules, ints)
 one_step Minus Minus zero = omega (arith, ints)
-one_step Minus Minus (suc q) =
-    let e : with_sign Minus (suc q) +ℤ with_sign Minus 1 ≡ negsuc (suc q) = omega (arith, ints) in
-    let f : with_ones (negsuc (suc q)) 0 ≡ with_sign Minus (suc q * one) +ℤ with_sign Minus one = omega (arith, ints) in
-    ap (λ (k : ℤ). with_ones k 0) e ∙ f
+one_step Minus Minus (suc q) = search (rules, ints)
 
 pub counts_whole : (z : ℤ) (d : Sign) → fraction_of z ≡ 0 → number_along d z ≡ z +ℤ with_sign d one
 counts_whole z d none =
@@ -127,63 +101,39 @@ counts_whole z d none =
 -- A number with a fraction, by its integer part.
 pub counts_ones : (z : ℤ) (s d : Sign) (ones count rest : ℕ) → s ≡ sign_of z → HasOnes (unsigned_abs z) ones → count ≡ count_in rest
     → rest ≡ fraction_of z → with_ones (with_sign s ones +ℤ with_sign d count) rest ≡ number_along d z
-counts_ones z s d ones count rest sign has counts fraction =
-    let low : ones * 10 ^ 108 ≤ unsigned_abs z = has.not_above in
-    let high : unsigned_abs z < (ones + 1) * 10 ^ 108 = has.next_above in
-    let q : ones ≡ unsigned_abs z / 10 ^ 108 = omega arith in
-    ap (λ (t : Sign). with_ones (with_sign t ones +ℤ with_sign d count) rest) sign
-    ∙ (ap (λ (t : ℕ). with_ones (with_sign (sign_of z) t +ℤ with_sign d count) rest) q
-    ∙ (ap (λ (t : ℕ). with_ones (counter_of z +ℤ with_sign d t) rest) counts
-    ∙ ap (λ (f : ℕ). with_ones (counter_of z +ℤ with_sign d (count_in f)) f) fraction))
+counts_ones z s d ones count rest sign has counts fraction = search rules
 
 -- If the integer part keeps its sign, the increment is added to the whole number.
 with_signed : (s : Sign) (n f : ℕ) → 0 < n → with_ones (with_sign s n) f ≡ with_sign s (n * one + f)
-with_signed s n f some =
-    ap (λ (t : Sign). with_sign t (unsigned_abs (with_sign s n) * one + f)) (sign_of-signed s n some)
-    ∙ ap (λ (k : ℕ). with_sign s (k * one + f)) (unsigned_abs-signed s n)
+with_signed s n f some = search (rules, sign_of-signed, unsigned_abs-signed)
 
 -- An integer part with a sign that is counted, in the four cases of `stepped`.
 counted_apart : (s d : Sign) (q c : ℕ) → false ≡ sameb the_type s d → with_sign s q +ℤ with_sign d c ≡ with_sign s q -ℤ with_sign s c
-counted_apart s d q c apart =
-    ap (λ (t : Sign). with_sign s q +ℤ with_sign t c) (signs_apart s d apart) ∙ minus_same_sign s q c
+counted_apart s d q c apart = search (rules, signs_apart, minus_same_sign)
 
 pub counted_same : (s d : Sign) (q c f : ℕ) → true ≡ sameb the_type s d → 0 < c
     → with_ones (with_sign s q +ℤ with_sign d c) f ≡ with_sign s ((q + c) * one + f)
-counted_same s d q c f same some =
-    ap (λ (t : Sign). with_ones (with_sign s q +ℤ with_sign t c) f) (sym (signs_same s d same))
-    ∙ (ap (λ (t : ℤ). with_ones t f) (signed-add s q c) ∙ with_signed s (q + c) f (omega arith))
+counted_same s d q c f same some = search (rules, signs_same, signed-add, with_signed)
 
 pub counted_back : (s d : Sign) (q c f : ℕ) → false ≡ sameb the_type s d → c < q
     → with_ones (with_sign s q +ℤ with_sign d c) f ≡ with_sign s ((q - c) * one + f)
-counted_back s d q c f apart less =
-    ap (λ (t : ℤ). with_ones t f) (counted_apart s d q c apart ∙ signed-sub s q c (q - c) (omega arith))
-    ∙ with_signed s (q - c) f (omega arith)
+counted_back s d q c f apart less = search (rules, counted_apart, signed-sub, with_signed)
 
 pub counted_over : (s d : Sign) (q c f : ℕ) → false ≡ sameb the_type s d → q < c
     → with_ones (with_sign s q +ℤ with_sign d c) f ≡ with_sign d ((c - q) * one + f)
-counted_over s d q c f apart less =
-    let turned : with_sign s q -ℤ with_sign s c ≡ with_sign d (c - q) =
-    signed-sub_turned s q c (c - q) (omega arith) ∙ ap (λ (t : Sign). with_sign t (c - q)) (sym (signs_apart s d apart)) in
-    ap (λ (t : ℤ). with_ones t f) (counted_apart s d q c apart ∙ turned) ∙ with_signed d (c - q) f (omega arith)
+counted_over s d q c f apart less = search (rules, signed-sub_turned, signs_apart, counted_apart, with_signed)
 
 pub counted_out : (s d : Sign) (q c f : ℕ) → false ≡ sameb the_type s d → q ≤ c → c ≤ q
     → with_ones (with_sign s q +ℤ with_sign d c) f ≡ with_sign Plus (0 * one + f)
-counted_out s d q c f apart up down =
-    ap (λ (t : ℤ). with_ones t f) (counted_apart s d q c apart ∙ signed-sub_same s q c (omega arith))
+counted_out s d q c f apart up down = search (rules, counted_apart, signed-sub_same)
 
 moved_on : (s : Sign) (q c f : ℕ) → 0 < c → with_ones (with_sign s q +ℤ with_sign s c) f
     ≡ with_sign s (q * one + f) +ℤ with_sign s (c * one)
-moved_on s q c f some =
-    let sum : (q + c) * one + f ≡ q * one + f + c * one = omega arith in
-    ap (λ (t : ℤ). with_ones t f) (signed-add s q c) ∙ with_signed s (q + c) f (omega arith) ∙ ap (with_sign s) sum
-    ∙ sym (signed-add s (q * one + f) (c * one))
+moved_on s q c f some = search (rules, signed-add, with_signed)
 
 moved_back : (s : Sign) (q c f : ℕ) → c < q
     → with_ones (with_sign s q +ℤ with_sign (opposite_of s) c) f ≡ with_sign s (q * one + f) +ℤ with_sign (opposite_of s) (c * one)
-moved_back s q c f less =
-    ap (λ (t : ℤ). with_ones t f) (minus_same_sign s q c ∙ signed-sub s q c (q - c) (omega arith))
-    ∙ with_signed s (q - c) f (omega arith)
-    ∙ sym (minus_same_sign s (q * one + f) (c * one) ∙ signed-sub s (q * one + f) (c * one) ((q - c) * one + f) (omega arith))
+moved_back s q c f less = search (rules, minus_same_sign, signed-sub, with_signed)
 
 moved : (s d : Sign) (q c f : ℕ) → 0 < c → (s ≡ d) ⊎ (c < q)
     → with_ones (with_sign s q +ℤ with_sign d c) f ≡ with_sign s (q * one + f) +ℤ with_sign d (c * one)
@@ -196,8 +146,4 @@ moved Minus Minus q c f some kept = moved_on Minus q c f some
 
 pub moves_whole : (z : ℤ) (d : Sign) (count : ℕ) → count ≡ count_of z → 0 < count → (sign_of z ≡ d) ⊎ (count < unsigned_abs z / one)
     → number_along d z ≡ z +ℤ with_sign d (count * one)
-moves_whole z d count count_is some kept =
-    let whole : unsigned_abs z / one * one + fraction_of z ≡ unsigned_abs z = omega arith in
-    ap (λ (c : ℕ). with_ones (counter_of z +ℤ with_sign d c) (fraction_of z)) (sym count_is)
-    ∙ moved (sign_of z) d (unsigned_abs z / one) count (fraction_of z) some kept
-    ∙ ap (λ (t : ℤ). t +ℤ with_sign d (count * one)) (ap (with_sign (sign_of z)) whole ∙ sym (signed_self z))
+moves_whole z d count count_is some kept = search (rules, moved, signed_self)

@@ -1,5 +1,5 @@
 -- The first five decimals of a number.
-use Rattle.std.proofs.Common.{◌≡◌, ℕ, ◌+◌, ◌-◌, ◌*◌, ◌/◌, ◌^◌, ◌<◌, ◌≤◌, ⊎_elim, sym, ◌∙◌, ap, arith}
+use Rattle.std.proofs.Common.{◌≡◌, ℕ, ◌+◌, ◌-◌, ◌*◌, ◌/◌, ◌^◌, ◌<◌, ◌≤◌, ⊎_elim, ap, arith, rules}
 use Rattle.std.proofs.Math.Nat.{mul-le-mul_right, mul-lt-mul_of_pos_right, pow-le-pow_right}
 use Rattle.std.proofs.lemmas.Nat.{div-mul-add}
 use Rattle.std.proofs.lemmas.Bool.{cases_lt}
@@ -22,10 +22,7 @@ low_exponent m b large below =
     (cases_lt 98 b)
 
 quotient_of : (size ones d : ℕ) → ones * d ≤ size → size < (ones + 1) * d → size / d ≡ ones
-quotient_of size ones d low high =
-    let rest : size - ones * d < d = omega arith in
-    let e : size ≡ ones * d + (size - ones * d) = omega arith in
-    ap (λ t. t / d) e ∙ div-mul-add ones d (size - ones * d) rest
+quotient_of size ones d low high = search (rules, div-mul-add)
 
 shifted : (m b : ℕ) → m * 10 ^ (b + 5) ≡ m * 10 ^ b * 100000
 shifted m b =
@@ -35,11 +32,7 @@ shifted m b =
 
 -- The integer part after the radix mark is moved five places to the right.
 pub shifted_ones : (m b n : ℕ) → HasOnes (m * 10 ^ (b + 5)) n → n ≡ m * 10 ^ b / 10 ^ 103
-shifted_ones m b n has =
-    let s = shifted m b in
-    let low : n * 10 ^ 108 ≤ m * 10 ^ (b + 5) = has.not_above in
-    let high : m * 10 ^ (b + 5) < (n + 1) * 10 ^ 108 = has.next_above in
-    sym (quotient_of (m * 10 ^ b) n (10 ^ 103) (omega arith) (omega arith))
+shifted_ones m b n has = search (rules, shifted, quotient_of)
 
 pub not_many : (m b : ℕ) → m < 10 ^ 10 → b ≤ 103 → m * 10 ^ (b + 5) < 10 ^ 10 * 10 ^ 108
 not_many m b below low =

@@ -1,5 +1,5 @@
 -- A register that is brought into X, with a stack lift and without.
-use Rattle.std.proofs.Common.{◌≡◌, ℕ, List, Bool, true, false, refl, ap, sym, ◌∙◌}
+use Rattle.std.proofs.Common.{◌≡◌, ℕ, List, Bool, true, false, refl, rules}
 use Rattle.h41_ram.specs.NamedRegisters.{with_status}
 use Rattle.h41_ram.specs.RegisterMap.{RegisterMap, register_at}
 use Rattle.h41_ram.specs.declared.status.StatusRegister.TheVariants as names
@@ -14,14 +14,12 @@ with_coming old named register lift = with_taken old named register (takes_of (c
 -- The stack is lifted, and X is written.
 pub in_lifted : (old memory : RegisterMap) (named : ℕ) (register : List ℕ) (lift : Bool) → lift ≡ true
     → memory ≡ with_taken old named register lift_takes old → with_status memory names.X register ≡ with_coming old named register lift
-in_lifted old memory named register lift on e =
-    ap (λ m. with_status m names.X register) e ∙ ap (with_coming old named register) (sym on)
+in_lifted old memory named register lift on e = search rules
 
 -- X alone is written.
 pub in_x : (old memory : RegisterMap) (named : ℕ) (register : List ℕ) (lift : Bool) → lift ≡ false
     → memory ≡ old → with_status memory names.X register ≡ with_coming old named register lift
-in_x old memory named register lift off e =
-    ap (λ m. with_status m names.X register) e ∙ ap (with_coming old named register) (sym off)
+in_x old memory named register lift off e = search rules
 
 -- The register of a place is brought into X like a given register.
 pub from_place : (old : RegisterMap) (named : ℕ) (place : RowPlace) (register : List ℕ) (lift : Bool)

@@ -1,5 +1,5 @@
 -- A size that is changed by whole ones, if only its digits change.
-use Rattle.std.proofs.Common.{◌≡◌, ℕ, ◌+◌, ◌-◌, ◌*◌, ◌<◌, Bool, true, false, sym, ◌∙◌, ap, arith}
+use Rattle.std.proofs.Common.{◌≡◌, ℕ, ◌+◌, ◌-◌, ◌*◌, ◌<◌, Bool, true, false, ap, arith, rules}
 use Rattle.std.specs.Prelude.{◌+ℤ◌}
 use denote.Enum.Bare.{sameb}
 use Rattle.h41_decimal.specs.contracts.sign.Sign.{the_type}
@@ -31,7 +31,5 @@ moved_down false m c u p digits way digits_is some unit =
 -- The same with a sign.
 pub moved_units : (grows : Bool) (s d : Sign) (x step y : ℕ) → grows ≡ sameb the_type s d → IsMovedSize grows x step y
     → with_sign s x +ℤ with_sign d step ≡ with_sign s y
-moved_units true s d x step y way is =
-    ap (λ (t : Sign). with_sign s x +ℤ with_sign t step) (sym (signs_same s d way)) ∙ signed-add s x step ∙ ap (with_sign s) (sym is)
-moved_units false s d x step y way is =
-    ap (λ (t : Sign). with_sign s x +ℤ with_sign t step) (signs_apart s d way) ∙ minus_same_sign s x step ∙ signed-sub s x step y is
+moved_units true s d x step y way is = search (rules, signs_same, signed-add)
+moved_units false s d x step y way is = search (rules, signs_apart, minus_same_sign, signed-sub)

@@ -1,9 +1,9 @@
 -- The text of a register that is appended to ALPHA.
 use Rattle.std.specs.Prelude.{◌≡◌, ◌≢◌, ℕ, Bool, true, false, List, Option, Some, None, ℤ, pos, slice_index, ◌==◌, ◌&&◌, if◌then◌else◌}
 use Rattle.std.specs.Prelude.{refl}
-use Rattle.std.proofs.Common.{ap, sym, ◌∙◌, arith}
+use Rattle.std.proofs.Common.{arith, rules}
 use Rattle.std.proofs.lemmas.Bool.Decides.{nat_tests}
-use Rattle.h41_decimal.specs.Holding.{Text, Other, decimal_in, holding, holding_of, number_in, parts_worth, text_in}
+use Rattle.h41_decimal.specs.Holding.{Text, holding, holding_of, number_in, parts_worth, text_in}
 use Rattle.h41_rows.specs.RowEffects.{recall_text}
 use Rattle.h41_show.specs.RegisterText.{holding_text, register_text}
 use Rattle.h41_show.specs.declared.format.Format.{Format}
@@ -20,15 +20,12 @@ no_number None e = refl
 
 marked : (mantissa exponent : Option ℕ) (register : List ℕ) → slice_index register 13 ≡ 1
     → holding (parts_worth mantissa exponent (slice_index register 13)) register ≡ Text (text_in register)
-marked mantissa exponent register place =
-    ap (λ n. holding n register) (ap (parts_worth mantissa exponent) place ∙ no_number mantissa exponent)
-    ∙ ap (λ (digit : ℕ). if digit == 1 then Text (text_in register) else Other) place
+marked mantissa exponent register place = search (rules, no_number)
 
 -- The text of ALPHA data is its characters.
 pub recall_text-bytes : (format : Format) (register : List ℕ) → slice_index register 13 ≡ 1
     → recall_text format register (holding_of register) ≡ text_in register
-recall_text-bytes format register place =
-    ap (recall_text format register) (marked (decimal_in register 3 10) (decimal_in register 0 3) register place)
+recall_text-bytes format register place = search (rules, marked)
 
 not_one : (digit : ℕ) → digit ≢ 1 → (digit == 1) ≡ false
 not_one digit other = grind (arith, nat_tests)
@@ -36,9 +33,7 @@ not_one digit other = grind (arith, nat_tests)
 unmarked : (format : Format) (number : Option ℤ) (register : List ℕ) → (slice_index register 13 == 1) ≡ false
     → holding_text format register (holding number register) ≡ recall_text format register (holding number register)
 unmarked format (Some value) register test = refl
-unmarked format None register test =
-    ap (λ (b : Bool). holding_text format register (if b then Text (text_in register) else Other)) test
-    ∙ sym (ap (λ (b : Bool). recall_text format register (if b then Text (text_in register) else Other)) test)
+unmarked format None register test = search rules
 
 -- The text of other registers is as the display shows them.
 pub recall_text-shown : (format : Format) (register : List ℕ) → slice_index register 13 ≢ 1

@@ -13,22 +13,20 @@ pub record Wrote (old : RamState) (memory : RegisterMap) (new : RamState) : Type
 pub none_written : (ram : RamState) → Wrote ram ram.registers ram
 none_written ram = record { registers = refl; passed = none_yet ram }
 
-pub then_written : (old middle new : RamState) (memory : RegisterMap) (address : ℕ) (register source : List ℕ)
-    → Wrote old memory middle → new ≡ with_written middle address register → KeepsMark middle new → register ≡ source
-    → nat_lt address 13 ≡ true → Wrote old (with_register memory address source) new
-then_written old middle new memory address register source first written keeps is below = record {
+pub written : {old middle new : RamState} {memory : RegisterMap} {register source : List ℕ} (address : ℕ) → Wrote old memory middle
+    → new ≡ with_written middle address register → KeepsMark middle new → register ≡ source → nat_lt address 13 ≡ true
+    → Wrote old (with_register memory address source) new
+written {old} {middle} {new} {memory} {register} {source} address first wrote keeps is below = record {
   registers =
-      ap (λ (ram : RamState). ram.registers) written
+      ap (λ (ram : RamState). ram.registers) wrote
       ∙ (ap (λ (m : RegisterMap). with_register m address register) first.registers ∙ ap (with_register memory address) is);
-  passed =
-      then_status old middle new address first.passed keeps (ap (λ (ram : RamState). ram.touched) written) below;
+  passed = then_status old middle new address first.passed keeps (ap (λ (ram : RamState). ram.touched) wrote) below;
 }
 
 -- Writes of flags, one after another.
-pub then_flag_written : (old middle new : RamState) (memory : RegisterMap) (flag : ℕ) (on : Bool) → Wrote old memory middle
+pub flag_written : {old middle new : RamState} {memory : RegisterMap} (flag : ℕ) (on : Bool) → Wrote old memory middle
     → new ≡ with_flag_written middle flag on → KeepsMark middle new → Wrote old (with_flag memory flag on) new
-then_flag_written old middle new memory flag on first written keeps = record {
-  registers =
-      ap (λ (ram : RamState). ram.registers) written ∙ ap (λ (m : RegisterMap). with_flag m flag on) first.registers;
-  passed = then_flag old middle new first.passed keeps (ap (λ (ram : RamState). ram.touched) written);
+flag_written {old} {middle} {new} {memory} flag on first wrote keeps = record {
+  registers = ap (λ (ram : RamState). ram.registers) wrote ∙ ap (λ (m : RegisterMap). with_flag m flag on) first.registers;
+  passed = then_flag old middle new first.passed keeps (ap (λ (ram : RamState). ram.touched) wrote);
 }

@@ -1,34 +1,21 @@
 -- A test of a whole number has the same result if all from 1000 on are treated alike.
-use Rattle.std.proofs.Common.{◌≡◌, ℕ, ◌<◌, ◌≤◌, ⊎_elim, sym, ◌∙◌, ap, arith, Some, true, false}
+use Rattle.std.proofs.Common.{◌≡◌, ℕ, ◌<◌, ◌≤◌, ap, Some, rules}
 use Rattle.std.specs.Prelude.{ℤ, if◌then◌else◌, nat_lt}
-use Rattle.std.proofs.lemmas.Bool.{cases_lt}
 use Rattle.std.proofs.lemmas.Bool.Decides.{nat_tests}
 use Rattle.h41_decimal.specs.Holding.{Holding, Number, Text, Other, worth}
 use Rattle.h41_rows.specs.private.Wholes.{told_number}
 
 -- Numbers below 1000, and numbers from 1000 on.
 pub told_below : (n : ℕ) → n < 1000 → told_number n ≡ n
-told_below n small =
-    let t : nat_lt n 1000 ≡ true = grind (arith, nat_tests) in
-    ap (λ b. if b then n else 1000) t
+told_below n small = search (rules, nat_tests)
 
 pub told_above : (n : ℕ) → 1000 ≤ n → told_number n ≡ 1000
-told_above n large =
-    let t : nat_lt n 1000 ≡ false = grind (arith, nat_tests) in
-    ap (λ b. if b then n else 1000) t
+told_above n large = search (rules, nat_tests)
 
 -- A test that fails from some number up to 1000 on has the same result for both.
 pub told_asked : {A : Type 0} (most : ℕ) (f : ℕ → A) (other : A) (n : ℕ) → most ≤ 1000
     → (if nat_lt (told_number n) most then f (told_number n) else other) ≡ (if nat_lt n most then f n else other)
-told_asked most f other n small =
-    ⊎_elim
-    (λ (less : n < 1000). ap (λ t. if nat_lt t most then f t else other) (told_below n less))
-    (λ (more : 1000 ≤ n).
-    let a : nat_lt 1000 most ≡ false = grind (arith, nat_tests) in
-    let b : nat_lt n most ≡ false = grind (arith, nat_tests) in
-    ap (λ t. if nat_lt t most then f t else other) (told_above n more)
-    ∙ (ap (λ t. if t then f 1000 else other) a ∙ sym (ap (λ t. if t then f n else other) b)))
-    (cases_lt n 1000)
+told_asked most f other n small = search (rules, told_below, nat_tests, told_above)
 
 -- A register's content that has a number is that number.
 pub number_held : (held : Holding) (value : ℤ) → worth held ≡ Some value → held ≡ Number value

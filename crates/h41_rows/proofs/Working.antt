@@ -1,6 +1,6 @@
 -- What is computed from the registers at addresses is computed from the places with these addresses.
-use Rattle.std.proofs.Common.{◌≡◌, ℕ, sym, ◌∙◌, ap, refl, subst, Bool, true, false, MatchBool, IsOkAnd, List, [], ◌∷◌, Option, Some, None}
-use Rattle.std.proofs.Common.{Result, Ok, Err}
+use Rattle.std.proofs.Common.{◌≡◌, ℕ, sym, ◌∙◌, ap, refl, subst, Bool, true, false, MatchBool, IsOkAnd, List, Option, Some, None}
+use Rattle.std.proofs.Common.{Result, Ok, Err, rules}
 use Rattle.std.specs.Prelude.{ℤ, pos, is_some, ◌&&◌, ◌==◌, if◌then◌else◌, slice_index}
 use Rattle.std.specs.Option.{option_map_or}
 use Rattle.h41_decimal.specs.Holding.{Holding, Text, Other, holding, holding_of, number_in, text_in, worth}
@@ -11,12 +11,10 @@ use Rattle.h41_decimal.specs.declared.places.Places.{Places}
 use Rattle.h41_decimal.specs.declared.ten.Ten.{Ten}
 use Rattle.h41_ram.specs.NamedFlags.{range_ignore}
 use Rattle.h41_ram.specs.RegisterMap.{RegisterMap, flag_of, register_at}
-use Rattle.h41_show.specs.DisplayFormat.{format_of}
 use Rattle.h41_rows.specs.private.Answers.{KeptOne, KeptTwo, RoundsAt, WithoutNumber, WorksOnRegister, WorksOnRegisters}
-use Rattle.h41_rows.specs.Computing.{IsAlways, WorksOn, WorksOnOne}
-use Rattle.h41_rows.specs.Places.{RowPlace, amount_in, are_numbers, place_address, register_in}
-use Rattle.h41_rows.specs.Values.{Given, OfOne, OfTwo, Computes, IsOfOne, IsOfTwo, IsValue, Kept, places_of}
-use Rattle.h41_rows.specs.Values.{sign_of_one, sign_of_two, unit_of}
+use Rattle.h41_rows.specs.Computing.{IsAlways, WorksOnOne}
+use Rattle.h41_rows.specs.Places.{RowPlace, amount_in, place_address, register_in}
+use Rattle.h41_rows.specs.Values.{Given, OfOne, OfTwo, Computes, IsOfOne, IsValue, unit_of}
 use Rattle.h41_rows.specs.declared.fault.LineFault.{LineFault}
 use Rattle.h41_rows.specs.declared.fault.LineFault.TheVariants.{AlphaData}
 use Rattle.h41_rows.specs.declared.values.ValueOfOne.{ValueOfOne}
@@ -46,13 +44,11 @@ worth_at memory address = worth (holding_of (register_at memory address))
 -- The number in a place.
 pub amount_of : (memory : RegisterMap) (named : ℕ) (a : RowPlace) (address : ℕ) (number : ℤ) → place_address named a ≡ address
     → worth_at memory address ≡ Some number → number ≡ amount_in memory named a
-amount_of memory named a address number e w =
-    sym (ap (λ k. option_map_or (λ (n : ℤ). n) (worth_at memory k) (pos 0)) e ∙ ap (λ o. option_map_or (λ (n : ℤ). n) o (pos 0)) w)
+amount_of memory named a address number e w = search rules
 
 pub number_of : (memory : RegisterMap) (named : ℕ) (a : RowPlace) (address : ℕ) (number : Option ℤ) → place_address named a ≡ address
     → worth_at memory address ≡ number → number_in (register_in memory named a) ≡ number
-number_of memory named a address number e w =
-    sym (worth_is_number (number_in (register_in memory named a)) (register_in memory named a)) ∙ (ap (λ k. worth_at memory k) e ∙ w)
+number_of memory named a address number e w = search (rules, worth_is_number)
 
 -- A register in a place contains the same number as the register itself.
 held_there : (register : List ℕ) (other : RegisterMap) (named : ℕ) (a : RowPlace) (number : Option ℤ)
@@ -62,25 +58,20 @@ held_there register other named a number e w = ap (λ (r : List ℕ). worth (hol
 
 amount_there : (register : List ℕ) (other : RegisterMap) (named : ℕ) (a : RowPlace) (number : ℤ)
     → register_in other named a ≡ register → worth (holding_of register) ≡ Some number → number ≡ amount_in other named a
-amount_there register other named a number e w =
-    amount_of other named a (place_address named a) number refl (held_there register other named a (Some number) e w)
+amount_there register other named a number e w = search (rules, amount_of, held_there)
 
 number_there : (register : List ℕ) (other : RegisterMap) (named : ℕ) (a : RowPlace) (number : Option ℤ)
     → register_in other named a ≡ register → worth (holding_of register) ≡ number
     → number_in (register_in other named a) ≡ number
-number_there register other named a number e w =
-    number_of other named a (place_address named a) number refl (held_there register other named a number e w)
+number_there register other named a number e w = search (rules, number_of, held_there)
 
 -- A value of one place.
 is_of_one : (value : ValueOfOne) (memory : RegisterMap) (named : ℕ) (a : RowPlace) (number : ℤ) (places : Places)
     (answer : Result Ten DecimalFault)
     → number ≡ amount_in memory named a → worth (holding_of (register_in memory named a)) ≡ Some number
     → RoundsAt value memory places → IsOfOne value places number answer → IsValue (OfOne value a) memory named answer
-is_of_one ones.Displayed memory named a number places answer e w at is =
-    subst (λ (t : ℤ). IsOfOne ones.Displayed (places_of (format_of memory)) t answer) e
-    (subst (λ (rounded : Places). IsOfOne ones.Displayed rounded number answer) at is)
-is_of_one ones.Unit memory named a number places answer e w at is =
-    subst (λ (o : Option ℤ). Nearest (option_map_or unit_of o (pos 0)) 1 answer) (sym w) is
+is_of_one ones.Displayed memory named a number places answer e w at is = search rules
+is_of_one ones.Unit memory named a number places answer e w at is = search rules
 is_of_one value memory named a number places answer e w at is = subst (λ (t : ℤ). IsOfOne value places t answer) e is
 
 pub computes_one : (value : ValueOfOne) (memory : RegisterMap) (named : ℕ) (a : RowPlace) (number : Ten)
@@ -88,29 +79,14 @@ pub computes_one : (value : ValueOfOne) (memory : RegisterMap) (named : ℕ) (a 
     → units number ≡ amount_in memory named a → worth (holding_of (register_in memory named a)) ≡ Some (units number)
     → RoundsAt value memory places → KeptOne value places (flag_of memory range_ignore) number result
     → Computes (OfOne value a) memory named result
-computes_one value memory named a number places result e w at k =
-    record {
-      answer = k.answer;
-      nearest = is_of_one value memory named a (units number) places k.answer e w at k.answers;
-      kept = subst (λ (t : ℤ). Kept (sign_of_one value t) (flag_of memory range_ignore) k.answer result) e k.kept;
-    }
+computes_one value memory named a number places result e w at k = search (rules, is_of_one)
 
 pub works_one : (value : ValueOfOne) (register : List ℕ) (places : Places) (ignores_range : Bool) (number : Ten)
     (result : Result (List ℕ) LineFault)
     → worth (holding_of register) ≡ Some (units number) → KeptOne value places ignores_range number result
     → WorksOnRegister value register places ignores_range result
 works_one value register places ignores_range number result w k memory named a e at flag =
-    let amount = amount_there register memory named a (units number) e w in
-    let there = held_there register memory named a (Some (units number)) e w in
-    let is_one : are_numbers memory named (a ∷ []) ≡ true =
-    ap (λ (o : Option ℤ). is_some o && true) (number_there register memory named a (Some (units number)) e w) in
-    let kept = subst (λ (ignored : Bool). KeptOne value places ignored number result) (sym flag) k in
-    worked value is_one (computes_one value memory named a number places result amount there at kept)
-  where
-    worked : (value : ValueOfOne) → are_numbers memory named (a ∷ []) ≡ true → Computes (OfOne value a) memory named result
-        → WorksOn memory named (OfOne value a) result
-    worked ones.Unit t computes = computes
-    worked value t computes = where_true _ _ _ t computes
+    search (rules, amount_there, held_there, number_there, computes_one, where_true)
 
 -- The unit of a register without a number.
 unit_of_none : (memory : RegisterMap) (named : ℕ) (a : RowPlace) (result : Result (List ℕ) LineFault)
@@ -130,40 +106,20 @@ pub works_without : (value : ValueOfOne) (register : List ℕ) (places : Places)
     → worth (holding_of register) ≡ None → fault ≡ AlphaData → WithoutNumber value fault result
     → WorksOnRegister value register places ignores_range result
 works_without value register places ignores_range fault result w f without memory named a e at flag =
-    let there = held_there register memory named a None e w in
-    let is_none : are_numbers memory named (a ∷ []) ≡ false =
-    ap (λ (o : Option ℤ). is_some o && true) (number_there register memory named a None e w) in
-    let said : Err fault ≡ Err AlphaData = ap Err f in
-    refused value is_none there said without
-  where
-    refused : (value : ValueOfOne) → are_numbers memory named (a ∷ []) ≡ false → worth (holding_of (register_in memory named a)) ≡ None
-        → ◌≡◌ {A = Result (List ℕ) LineFault} (Err fault) (Err AlphaData) → WithoutNumber value fault result
-        → WorksOn memory named (OfOne value a) result
-    refused ones.Unit t none said without = unit_of_none memory named a result none without
-    refused value t none said without = where_false _ _ _ t (without ∙ said)
+    search (rules, held_there, number_there, unit_of_none, where_false)
 
 -- A value of the register at an address.
 pub one_at : (value : ValueOfOne) (memory : RegisterMap) (address : ℕ) (register : List ℕ) (places : Places) (ignores_range : Bool)
     (result : Result (List ℕ) LineFault)
     → register ≡ register_at memory address → RoundsAt value memory places → ignores_range ≡ flag_of memory range_ignore
     → WorksOnRegister value register places ignores_range result → WorksOnOne value memory address result
-one_at value memory address register places ignores_range result same at flag works named a e =
-    works memory named a (ap (register_at memory) e ∙ sym same) at (sym flag)
+one_at value memory address register places ignores_range result same at flag works named a e = search rules
 
 -- A value of two places.
 pub computes_two : (value : ValueOfTwo) (memory : RegisterMap) (named : ℕ) (a b : RowPlace) (x y : Ten) (result : Result (List ℕ) LineFault)
     → units x ≡ amount_in memory named a → units y ≡ amount_in memory named b
     → KeptTwo value (flag_of memory range_ignore) x y result → Computes (OfTwo value a b) memory named result
-computes_two value memory named a b x y result e f k =
-    record {
-      answer = k.answer;
-      nearest =
-          subst (λ (t : ℤ). IsOfTwo value t (amount_in memory named b) k.answer) e
-          (subst (λ (t : ℤ). IsOfTwo value (units x) t k.answer) f k.answers);
-      kept =
-          subst (λ (t : ℤ). Kept (sign_of_two value t (amount_in memory named b)) (flag_of memory range_ignore) k.answer result) e
-          (subst (λ (t : ℤ). Kept (sign_of_two value (units x) t) (flag_of memory range_ignore) k.answer result) f k.kept);
-    }
+computes_two value memory named a b x y result e f k = search rules
 
 -- Both places contain numbers.
 both_numbers : (o p : Option ℤ) (x y : ℤ) → o ≡ Some x → p ≡ Some y → (is_some o && (is_some p && true)) ≡ true
@@ -193,11 +149,9 @@ works_two value first second ignores_range x y result v w k other named a b e f 
 pub first_fails : (value : ValueOfTwo) (first second : List ℕ) (ignores_range : Bool) (fault : LineFault)
     → worth (holding_of first) ≡ None → fault ≡ AlphaData → WorksOnRegisters value first second ignores_range (Err fault)
 first_fails value first second ignores_range fault w said other named a b e f flag =
-    where_false _ _ _
-    (first_without _ _ (number_there first other named a None e w)) (ap Err said)
+    search (rules, where_false, first_without, number_there)
 
 pub second_fails : (value : ValueOfTwo) (first second : List ℕ) (ignores_range : Bool) (fault : LineFault)
     → worth (holding_of second) ≡ None → fault ≡ AlphaData → WorksOnRegisters value first second ignores_range (Err fault)
 second_fails value first second ignores_range fault w said other named a b e f flag =
-    where_false _ _ _
-    (second_without _ _ (number_there second other named b None f w)) (ap Err said)
+    search (rules, where_false, second_without, number_there)

@@ -1,8 +1,7 @@
 -- Sizes as FIX shows them.
-use Rattle.std.specs.Prelude.{◌≡◌, ℕ, zero, suc, ◌+◌, ◌-◌, ◌*◌, ◌/◌, ◌^◌, ◌<◌, ◌≤◌, min, nat_lt, ◌==◌, ◌&&◌, ◌||◌, length, Bool, true}
-use Rattle.std.specs.Prelude.{false, refl}
+use Rattle.std.specs.Prelude.{◌≡◌, ℕ, zero, suc, ◌+◌, ◌-◌, ◌*◌, ◌/◌, ◌^◌, ◌<◌, ◌≤◌, min, length, true, false, refl}
 use Rattle.std.specs.Fmt.{decimal}
-use Rattle.std.proofs.Common.{ap, sym, ◌∙◌, arith, inl, inr, subst, lt_of_lt_of_le}
+use Rattle.std.proofs.Common.{ap, sym, ◌∙◌, arith, inl, inr, subst, lt_of_lt_of_le, rules}
 use Rattle.std.proofs.Math.Nat.{pow-suc, pow-le-pow_right, mul-pos}
 use Rattle.std.proofs.lemmas.Nat.{le-div, div_below}
 use Rattle.std.proofs.lemmas.Bool.{cases_lt}
@@ -56,8 +55,7 @@ module _ (d s : ℕ) (low : 10 ^ 9 ≤ d) (high : d < 10 ^ 10) where
   integer_digits-size most = elim (cases_lt s 99) [ inl less ↦ none less | inr not ↦ whole not most ]
 
   pub fixed_decimals-size : (digits : ℕ) → s ≤ 108 → min digits (9 - (s - 99)) ≡ fixed_decimals digits (d * 10 ^ s)
-  fixed_decimals-size digits most =
-      ap (min digits) (let e = integer_digits-size most in let f : 9 - (s - 99) ≡ 10 - integer_digits (d * 10 ^ s) = omega arith in f)
+  fixed_decimals-size digits most = search (rules, integer_digits-size)
 
   fixed_count-size : (digits decimals dropped : ℕ) → s ≤ 108 → decimals ≡ min digits (9 - (s - 99)) → dropped ≡ 108 - s - decimals
       → nearest d (10 ^ dropped) ≡ fixed_count digits (d * 10 ^ s)
@@ -71,9 +69,7 @@ module _ (d s : ℕ) (low : 10 ^ 9 ≤ d) (high : d < 10 ^ 10) where
   -- The count of steps, as the code computes it.
   pub fixed_count-code : (digits steps whole decimals : ℕ) → s ≤ 108 → steps ≡ s → whole ≡ steps - 99 → decimals ≡ min digits (9 - whole)
       → nearest d (10 ^ (108 - steps - decimals)) ≡ fixed_count digits (d * 10 ^ s)
-  fixed_count-code digits steps whole decimals most same front are =
-      let places : whole ≡ s - 99 = omega arith in
-      fixed_count-size digits decimals (108 - steps - decimals) most (are ∙ ap (λ w. min digits (9 - w)) places) (omega arith)
+  fixed_count-code digits steps whole decimals most same front are = search (rules, whole, fixed_count-size)
 
   pub size_positive : 0 < d * 10 ^ s
   size_positive = let some : 0 < d = omega arith in mul-pos some (power_pos s)
@@ -97,28 +93,15 @@ module _ (d s : ℕ) (low : 10 ^ 9 ≤ d) (high : d < 10 ^ 10) where
 -- The sizes that FIX shows in its own form, and those that it does not.
 pub is_fixed-shown : (digits size : ℕ) → size < 10 ^ 10 * one → 0 < fixed_count digits size → is_fixed digits size ≡ true
 unfolding is_fixed
-is_fixed-shown digits size small some =
-    let a : nat_lt size (10 ^ 10 * one) ≡ true = grind (arith, nat_tests) in
-    let b : nat_lt 0 (fixed_count digits size) ≡ true = grind (arith, nat_tests) in
-    rw (a, b) (or_true (size == 0))
-  where
-    or_true : (b : Bool) → (true && (b || true)) ≡ true
-    or_true true = refl
-    or_true false = refl
+is_fixed-shown digits size small some = search (rules, nat_tests)
 
 pub is_fixed-large : (digits size : ℕ) → 10 ^ 10 * one ≤ size → is_fixed digits size ≡ false
 unfolding is_fixed
-is_fixed-large digits size large =
-    let a : nat_lt size (10 ^ 10 * one) ≡ false = grind (arith, nat_tests) in
-    rw a refl
+is_fixed-large digits size large = search (rules, nat_tests)
 
 pub is_fixed-tiny : (digits size : ℕ) → 0 < size → size < 10 ^ 10 * one → fixed_count digits size ≡ 0 → is_fixed digits size ≡ false
 unfolding is_fixed
-is_fixed-tiny digits size some small none =
-    let a : nat_lt size (10 ^ 10 * one) ≡ true = grind (arith, nat_tests) in
-    let b : nat_lt 0 (fixed_count digits size) ≡ false = grind (arith, nat_tests) in
-    let c : (size == 0) ≡ false = grind (arith, nat_tests) in
-    rw (a, b, c) refl
+is_fixed-tiny digits size some small none = search (rules, nat_tests)
 
 -- If more than ten digits are dropped, none is left.
 pub nearest_none : (d dropped : ℕ) → d < 10 ^ 10 → 10 < dropped → nearest d (10 ^ dropped) ≡ 0

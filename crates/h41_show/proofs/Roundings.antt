@@ -1,7 +1,7 @@
 -- Sizes as the display rounds them.
-use Rattle.std.specs.Prelude.{◌≡◌, ℕ, zero, suc, ◌+◌, ◌-◌, ◌*◌, ◌/◌, ◌^◌, ◌<◌, ◌≤◌, nat_le, nat_lt, cond, true, false, refl}
+use Rattle.std.specs.Prelude.{◌≡◌, ℕ, zero, suc, ◌+◌, ◌-◌, ◌*◌, ◌/◌, ◌^◌, ◌<◌, ◌≤◌, nat_le, cond, true, false, refl}
 use Rattle.std.specs.List.{count_by, range_with_len}
-use Rattle.std.proofs.Common.{ap, sym, ◌∙◌, arith, inl, inr, subst, lt_of_lt_of_le}
+use Rattle.std.proofs.Common.{ap, sym, ◌∙◌, arith, inl, inr, subst, lt_of_lt_of_le, rules}
 use Rattle.std.proofs.Math.Nat.{pow-suc, pow-le-pow_right, mul-div-mul_right}
 use Rattle.std.proofs.lemmas.Nat.{le-div, div_below}
 use Rattle.std.proofs.lemmas.List.Sums.{sum_by-cons}
@@ -65,9 +65,7 @@ pub nearest_low : (d p c : ℕ) → 0 < p → c * p ≤ d → c ≤ nearest d p
 nearest_low d p c some low = le-div c (2 * d + p) (2 * p) (omega arith) (omega arith)
 
 pub nearest_high : (d p c : ℕ) → 0 < p → d < c * p → nearest d p ≤ c
-nearest_high d p c some high =
-    let below : nearest d p < c + 1 = div_below (2 * d + p) (2 * p) (c + 1) (omega arith) (omega arith) in
-    omega arith
+nearest_high d p c some high = search (rules, div_below)
 
 -- Ten digits of which some are dropped.
 module _ (d m : ℕ) (few : m ≤ 7) (low : 10 ^ 9 ≤ d) (high : d < 10 ^ 10) where
@@ -93,17 +91,13 @@ module _ (d m : ℕ) (few : m ≤ 7) (low : 10 ^ 9 ≤ d) (high : d < 10 ^ 10) w
 rounded_near : (m n e c : ℕ) → exponent_of n ≡ e → nearest n (10 ^ (e - m)) ≡ c → c * 10 ^ (e - m) < 10 ^ 100 * one
     → rounded_size m n ≡ c * 10 ^ (e - m)
 unfolding rounded_size
-rounded_near m n e c exponent count below =
-    let test : nat_lt (c * 10 ^ (e - m)) (10 ^ 100 * one) ≡ true = grind (arith, nat_tests) in
-    rw (exponent, count, test) refl
+rounded_near m n e c exponent count below = search (rules, nat_tests, count)
 
 -- Otherwise it is cut.
 rounded_cut : (m n e c : ℕ) → exponent_of n ≡ e → nearest n (10 ^ (e - m)) ≡ c → 10 ^ 100 * one ≤ c * 10 ^ (e - m)
     → rounded_size m n ≡ n / 10 ^ (e - m) * 10 ^ (e - m)
 unfolding rounded_size
-rounded_cut m n e c exponent count above =
-    let test : nat_lt (c * 10 ^ (e - m)) (10 ^ 100 * one) ≡ false = grind (arith, nat_tests) in
-    rw (exponent, count, test) refl
+rounded_cut m n e c exponent count above = search (rules, nat_tests, count)
 
 top : 10 ^ 100 * one ≡ 10 ^ 208
 top = refl

@@ -1,11 +1,10 @@
 -- Sizes as SCI and ENG show them, zero, and numbers.
-use Rattle.std.specs.Prelude.{◌≡◌, ℕ, zero, suc, ◌+◌, ◌-◌, ◌*◌, ◌^◌, ◌<◌, ◌≤◌, ◌⊎◌, min, ◌==◌, ◌++◌, if◌then◌else◌, true, false, refl, pos}
-use Rattle.std.proofs.Common.{ap, sym, ◌∙◌, arith, subst, inl, inr}
+use Rattle.std.specs.Prelude.{◌≡◌, ℕ, ◌+◌, ◌-◌, ◌*◌, ◌^◌, ◌<◌, ◌≤◌, ◌⊎◌, min, ◌++◌, if◌then◌else◌, true, refl, pos}
+use Rattle.std.proofs.Common.{ap, arith, subst, rules}
 use Rattle.std.proofs.lemmas.Nat.{div_below}
 use Rattle.std.proofs.lemmas.Bool.Decides.{nat_tests}
 use Rattle.h41_decimal.specs.Signs.{with_sign}
 use Rattle.h41_decimal.specs.declared.sign.Sign.{Sign}
-use Rattle.h41_decimal.specs.declared.sign.Sign.TheVariants.{Plus, Minus}
 use Rattle.h41_show.specs.Rounding.{nearest, exponent_of, rounded_size}
 use Rattle.h41_show.specs.NumberText.{fixed_decimals, fixed_count, is_fixed, fixed_text, steps_text, mantissa_decimals, mantissa_text}
 use Rattle.h41_show.specs.NumberText.{exponent_text, extra_digits, exponential_text, scientific_text, notation_text, sign_text, number_text}
@@ -30,24 +29,14 @@ module _ (c t m : ℕ) (few : m ≤ 7) (small : t ≤ 198) (low : 10 ^ m ≤ c) 
   exponential_text-shown : (radix : RadixMark) (extra : ℕ) → extra ≤ 2 → extra ≤ t
       → exponential_text radix m extra (c * 10 ^ (t + 9 - m))
       ≡ mantissa_text radix (m - extra) (c * 10 ^ (extra - m)) ++ exponent_text (t - extra + 9)
-  exponential_text-shown radix extra most within =
-      let e = exponent_of-shown in
-      let shown : t + 9 - extra ≡ t - extra + 9 = omega arith in
-      let parts : t + 9 - m ≡ extra - m + (t - extra + 9 - (m - extra)) = omega arith in
-      let quotient = shifted c (t + 9 - m) (t - extra + 9 - (m - extra)) (extra - m) parts in
-      rw (e, shown, quotient) refl
+  exponential_text-shown radix extra most within = search (rules, exponent_of-shown, shifted)
 
   pub scientific_text-shown : (format : Format) (size extra : ℕ) → 0 < size → m ≡ mantissa_decimals format.digits
       → c * 10 ^ (t + 9 - m) ≡ rounded_size m size → extra ≡ extra_digits format.notation (t + 9) → extra ≤ 2 → extra ≤ t
       → mantissa_text format.radix (m - extra) (c * 10 ^ (extra - m)) ++ exponent_text (t - extra + 9) ≡ scientific_text format size
   unfolding scientific_text
   scientific_text-shown format size extra some decimals value digits most within =
-      let test : (size == 0) ≡ false = grind (arith, nat_tests) in
-      let shown = c * 10 ^ (t + 9 - m) in
-      let exponent = ap (λ k. exponential_text format.radix m (extra_digits format.notation k) shown) exponent_of-shown in
-      let beyond = ap (λ k. exponential_text format.radix m k shown) (sym digits) in
-      let text = exponential_text-shown format.radix extra most within in
-      sym (rw (test, ← decimals, ← value) (exponent ∙ (beyond ∙ text)))
+      search (rules, nat_tests, exponent_of-shown, exponential_text-shown)
 
 -- FIX, if it shows the size in its own form.
 pub notation_text-fixed : (format : Format) (size : ℕ) → is_fixed format.digits size ≡ true
@@ -72,10 +61,7 @@ fixed_decimals-zero digits = ap (λ k. min digits (10 - k)) (length-decimal_digi
 
 pub zero_fixed : (format : Format) (decimals : ℕ) → decimals ≡ min format.digits 9
     → steps_text format decimals 0 ≡ notation_text Fixed format 0
-zero_fixed format decimals are =
-    sym (notation_text-fixed format 0 (is_fixed-zero format.digits)
-    ∙ ap (λ d. steps_text format d (fixed_count format.digits 0)) (fixed_decimals-zero format.digits ∙ sym are)
-    ∙ ap (steps_text format decimals) (fixed_count-zero format.digits))
+zero_fixed format decimals are = search (rules, notation_text-fixed, is_fixed-zero, fixed_decimals-zero, fixed_count-zero)
 
 zero_scientific : (format : Format)
     → mantissa_text format.radix (mantissa_decimals format.digits) 0 ++ exponent_text 108 ≡ scientific_text format 0
@@ -84,18 +70,13 @@ zero_scientific format = refl
 
 pub zero_in_powers : (format : Format) (notation : Notation) → (notation ≡ Scientific) ⊎ (notation ≡ Engineering)
     → mantissa_text format.radix (mantissa_decimals format.digits) 0 ++ exponent_text 108 ≡ notation_text notation format 0
-zero_in_powers format notation is = elim is [
-  | inl scientific ↦ zero_scientific format ∙ ap (λ n. notation_text n format 0) (sym scientific)
-  | inr engineering ↦ zero_scientific format ∙ ap (λ n. notation_text n format 0) (sym engineering)
-]
+zero_in_powers format notation is = search (rules, zero_scientific)
 
 -- The text of a number is that of its sign and its size.
 pub number_text-signed : (format : Format) (sign : Sign) (size : ℕ) → 0 < size
     → sign_text sign ++ notation_text format.notation format size ≡ number_text format (with_sign sign size)
 unfolding number_text
-number_text-signed format Plus size some = refl
-number_text-signed format Minus zero some = absurd (omega arith)
-number_text-signed format Minus (suc size) some = refl
+number_text-signed format sign size some = grind arith
 
 pub number_text-zero : (format : Format) → notation_text format.notation format 0 ≡ number_text format (pos 0)
 unfolding number_text

@@ -1,10 +1,10 @@
 -- What the walk finds in sound memory is what the lists of memory give.
-use Rattle.std.proofs.Common.{◌≡◌, ℕ, Bool, true, false, List, [], ◌∷◌, Option, Some, None, refl, sym, ap, subst, ◌∙◌, inl, inr}
+use Rattle.std.proofs.Common.{◌≡◌, ℕ, Bool, true, false, List, [], ◌∷◌, Option, Some, None, refl, sym, ap, subst, ◌∙◌, inl, inr, rules}
 use Rattle.std.specs.Prelude.{IsTrue, MatchBool}
 use Rattle.std.specs.Option.{option_or}
 use Rattle.std.proofs.lemmas.Bool.{cases_Bool}
 use Rattle.h41_ram.specs.RegisterMap.{RegisterMap, is_sound}
-use Rattle.h41_program.specs.Lines.{is_end, is_final_end, is_label}
+use Rattle.h41_program.specs.Lines.{is_end, is_final_end}
 use Rattle.h41_program.specs.ProgramBytes.{final_position, program_bytes}
 use Rattle.h41_program.specs.ProgramLaws.{OneList, ReadIsDetermined}
 use Rattle.h41_program.specs.FirstLines.{behind}
@@ -28,17 +28,8 @@ up_to_end-end listed rest end = rw end refl
 -- The labels of a list are those up to its END.
 pub label_up : (n : ℕ) (lines : List ListedLine) → label_in n (up_to_end lines) ≡ label_in n lines
 label_up n [] = refl
-label_up n (first ∷ rest) = elim (cases_Bool (is_end first.line)) [
-  | inl end ↦ ap (label_in n) (up_to_end-end first rest end) ∙ label_in-end n first [] end ∙ sym (label_in-end n first rest end)
-  | inr other ↦ elim (cases_Bool (is_label n first.line)) [
-    | inl here ↦
-        ap (label_in n) (up_to_end-other first rest other) ∙ label_in-here n first (up_to_end rest) here
-        ∙ sym (label_in-here n first rest here)
-    | inr none ↦
-        ap (label_in n) (up_to_end-other first rest other) ∙ label_in-other n first (up_to_end rest) other none ∙ label_up n rest
-        ∙ sym (label_in-other n first rest other none)
-  ]
-]
+label_up n (first ∷ rest) =
+    search (rules, cases_Bool, up_to_end-end, label_in-end, up_to_end-other, label_in-here, label_in-other, label_up n rest)
 
 module _ (memory : RegisterMap) where
   abbrev bytes : List ℕ
@@ -50,12 +41,7 @@ module _ (memory : RegisterMap) where
   -- The lines of a program are those of the list up to the first END.
   ends_there : (at : ℕ) (first : ListedLine) (rest : List ListedLine) → Reads bytes final at (first ∷ rest)
       → is_program_end first.line ≡ true → ProgramFrom (memory_source memory) at (first ∷ [])
-  ends_there at first rest reads ends =
-      let none : ◌≡◌ {A = List ListedLine} [] [] = refl in (
-        reads.0,
-        subst (λ (t : Bool). MatchBool t (◌≡◌ {A = List ListedLine} [] []) (ProgramFrom (memory_source memory) (behind first) []))
-            (sym ends) none,
-      )
+  ends_there at first rest reads ends = search rules
 
   pub program_of : (at : ℕ) (lines : List ListedLine) → Reads bytes final at lines
       → ProgramFrom (memory_source memory) at (up_to_end lines)

@@ -1,16 +1,16 @@
 -- The lines of a program, line by line.
-use Rattle.std.proofs.Common.{◌≡◌, ℕ, suc, ◌+◌, ◌-◌, Bool, true, false, List, [], ◌∷◌, Option, Some, None, refl, sym, ap, ◌∙◌}
-use Rattle.std.proofs.Common.{arith, inl, inr, subst}
+use Rattle.std.proofs.Common.{◌≡◌, ℕ, suc, ◌+◌, ◌-◌, Bool, true, false, List, [], ◌∷◌, Option, Some, None, refl, sym, ap, ◌∙◌, rules}
+use Rattle.std.proofs.Common.{arith, subst}
 use Rattle.std.specs.Prelude.{MatchBool, ◌==◌}
 use Rattle.std.specs.Option.{option_map}
 use Rattle.h41_codes.specs.declared.line.Line.{Line}
-use Rattle.h41_codes.specs.declared.line.Line.TheVariants.{End, FinalEnd}
 use Rattle.h41_program.specs.Lines.{is_end, is_final_end, is_label}
 use Rattle.h41_program.specs.Numbering.{number_in, numbered_in}
 use Rattle.h41_program.specs.FirstLines.{behind}
 use Rattle.h41_program.specs.Searches.{end_in, position_of}
 use Rattle.h41_program.specs.declared.listed_line.ListedLine.{ListedLine}
 use Rattle.h41_program.specs.declared.reading.Found.{Found}
+use Rattle.h41_program.specs.declared.reading.LinePlace.{LinePlace}
 use Rattle.h41_program.proofs.SearchSteps.{label_in-end, label_in-here, label_in-other}
 use Rattle.h41_program.specs.Sources.{HasFirst, HasNoLine, ProgramFrom, Source, is_program_end}
 use Rattle.h41_walk.specs.Searches.{label_position}
@@ -26,13 +26,7 @@ module _ (source : Source) (at : ℕ) (found : Found) (is : HasFirst source at f
       → (rest : List ListedLine) × (lines ≡ found.listed ∷ rest)
       × MatchBool (is_program_end found.listed.line) (rest ≡ []) (ProgramFrom source found.behind rest)
   first_rest [] reads = absurd (reads found.listed is.first)
-  first_rest (first ∷ rest) reads =
-      let same = is.one first reads.0 in (
-        rest,
-        ap (λ (l : ListedLine). l ∷ rest) same,
-        subst (λ (n : ℕ). MatchBool (is_program_end found.listed.line) (rest ≡ []) (ProgramFrom source n rest)) (sym is.behind)
-            (subst (λ (l : ListedLine). MatchBool (is_program_end l.line) (rest ≡ []) (ProgramFrom source (behind l) rest)) same reads.1),
-      )
+  first_rest (first ∷ rest) reads = search rules
 
 pub no_rest : (source : Source) (at : ℕ) (lines : List ListedLine) → HasNoLine source at → ProgramFrom source at lines → lines ≡ []
 no_rest source at [] none reads = refl
@@ -60,33 +54,23 @@ module _ {A : Type 0} (source : Source) (from at : ℕ) (answer left : List List
   pub asks_more : (more : List ListedLine → A) (found : Found) → HasFirst source at found → is_program_end found.listed.line ≡ false
       → ((rest : List ListedLine) → left (found.listed ∷ rest) ≡ more rest)
       → Asks source from found.behind answer more
-  asks_more more found is other goes lines reads =
-      let here = asks lines reads in
-      let parts = first_rest source at found is here.0 here.1 in (
-        parts.0,
-        more_rest source found.behind (is_program_end found.listed.line) parts.0 other parts.2,
-        here.2 ∙ ap left parts.1 ∙ goes parts.0,
-      )
+  asks_more more found is other goes lines reads = search (rules, first_rest, more_rest)
 
   -- The answer at the end of the lines, at a line, and at a line that ends the program.
-  pub asked_none : (lines : List ListedLine) → HasNoLine source at → ProgramFrom source from lines → answer lines ≡ left []
-  asked_none lines none reads =
-      let here = asks lines reads in here.2 ∙ ap left (no_rest source at here.0 none here.1)
+  pub asked_none : (lines : List ListedLine) → HasNoLine source at → ProgramFrom source from lines → left [] ≡ answer lines
+  asked_none lines none reads = let here = asks lines reads in sym (here.2 ∙ ap left (no_rest source at here.0 none here.1))
 
-  pub asked_first : (found : Found) (lines : List ListedLine) → HasFirst source at found → ProgramFrom source from lines
-      → (rest : List ListedLine) × (answer lines ≡ left (found.listed ∷ rest))
-  asked_first found lines is reads =
-      let here = asks lines reads in
-      let parts = first_rest source at found is here.0 here.1 in
-      (parts.0, here.2 ∙ ap left parts.1)
+  pub asked_first : (found : Found) (lines : List ListedLine) (result : A) → HasFirst source at found → ProgramFrom source from lines
+      → ((rest : List ListedLine) → left (found.listed ∷ rest) ≡ result) → result ≡ answer lines
+  asked_first found lines result is reads goes = search (rules, first_rest)
 
-  pub asked_last : (found : Found) (lines : List ListedLine) → HasFirst source at found → is_program_end found.listed.line ≡ true
-      → ProgramFrom source from lines → answer lines ≡ left (found.listed ∷ [])
-  asked_last found lines is last reads =
-      let here = asks lines reads in
-      let parts = first_rest source at found is here.0 here.1 in
-      here.2 ∙ ap left (parts.1 ∙ ap (λ (rest : List ListedLine). found.listed ∷ rest)
-      (last_rest source found.behind (is_program_end found.listed.line) parts.0 last parts.2))
+  pub asked_last : (found : Found) (lines : List ListedLine) (result : A) → HasFirst source at found
+      → is_program_end found.listed.line ≡ true → ProgramFrom source from lines → left (found.listed ∷ []) ≡ result → result ≡ answer lines
+  asked_last found lines result is last reads goes = search (rules, first_rest, last_rest)
+
+-- The first line from a position on, at its place.
+abbrev pub found_at : LinePlace → Line → Found
+found_at place line = record { listed = record { position = place.position; line = line }; behind = place.behind }
 
 -- The end of a program.
 pub end_here : (listed : ListedLine) (rest : List ListedLine) → is_program_end listed.line ≡ true
@@ -99,19 +83,16 @@ end_other listed rest other = rw other refl
 
 -- The kinds of a line.
 pub ends_program : (line : Line) → is_end line ≡ true → is_program_end line ≡ true
-ends_program (End link marks) is = refl
-ends_program line is = cc
+ends_program line is = grind arith
 
 pub ends_memory : (line : Line) → is_final_end line ≡ true → is_program_end line ≡ true
-ends_memory (FinalEnd link marks) is = refl
-ends_memory line is = cc
+ends_memory line is = grind arith
 
 pub ends_none : (line : Line) → is_end line ≡ false → is_final_end line ≡ false → is_program_end line ≡ false
 ends_none line end final = rw (end, final) refl
 
 no_end : (line : Line) → is_program_end line ≡ false → is_end line ≡ false
-no_end (End link marks) other = cc
-no_end line other = refl
+no_end line other = grind arith
 
 -- A label in a program.
 pub label_here : (n : ℕ) (listed : ListedLine) (rest : List ListedLine) → is_label n listed.line ≡ true
@@ -124,10 +105,7 @@ pub label_other : (n : ℕ) (listed : ListedLine) (rest : List ListedLine) → i
 label_other n listed rest other none = ap position_of (label_in-other n listed rest (no_end listed.line other) none)
 
 pub label_last : (n : ℕ) (listed : ListedLine) → is_label n listed.line ≡ false → label_position n (listed ∷ []) ≡ None
-label_last n listed none = elim (cases_Bool (is_end listed.line)) [
-  | inl end ↦ ap position_of (label_in-end n listed [] end)
-  | inr other ↦ ap position_of (label_in-other n listed [] other none)
-]
+label_last n listed none = search (rules, cases_Bool, label_in-end, label_in-other)
 
 -- Tests of numbers.
 pub same_test : (a b : ℕ) → a ≡ b → (a == b) ≡ true
@@ -141,16 +119,14 @@ abbrev pub counted : ℕ → ℕ → List ListedLine → Option ℕ
 counted count position lines = option_map (λ n. count + n) (number_in position lines)
 
 from_none : (number : Option ℕ) → number ≡ option_map (λ n. 0 + n) number
-from_none None = refl
-from_none (Some n) = ap (λ (m : ℕ). Some m) (omega arith)
+from_none number = grind arith
 
 pub counted_none : (source : Source) (from position : ℕ) → Asks source from from (number_in position) (counted 0 position)
 counted_none source from position lines reads = (lines, reads, from_none (number_in position lines))
 
 one_more : (count : ℕ) (number : Option ℕ)
     → option_map (λ n. count + n) (option_map suc number) ≡ option_map (λ n. count + 1 + n) number
-one_more count None = refl
-one_more count (Some n) = ap (λ (m : ℕ). Some m) (omega arith)
+one_more count number = grind arith
 
 pub counted_here : (count position : ℕ) (listed : ListedLine) (rest : List ListedLine) → (listed.position == position) ≡ true
     → counted count position (listed ∷ rest) ≡ Some (count + 1)

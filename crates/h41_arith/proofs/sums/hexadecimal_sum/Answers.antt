@@ -1,4 +1,4 @@
-use Rattle.std.proofs.Common.{◌∙◌, arith}
+use Rattle.std.proofs.Common.{◌∙◌, rules}
 use Rattle.h41_digits.proofs.Packed.{weight_positive}
 use Rattle.h41_arith.proofs.Hexadecimal.{sum_result}
 use Rattle.h41_arith.proofs.InPlace.{sum_at, is_multiple, is_quotient}
@@ -9,16 +9,7 @@ put-requires-clause-places c =
     is_multiple _ _ _ (sum_at _ _ _ _ _ _ _ c.in_span-first.ensures.digits c.in_span-second.ensures.digits c.carry_in_span.ensures.value)
 
 pub put-requires-clause-most : goal.put-requires-clause-most
-put-requires-clause-most c =
-    let span = c.args.span in
-    omega (
-      arith,
-      c.in_span-first.ensures.within,
-      c.in_span-second.ensures.within,
-      c.carry_in_span.ensures.most,
-      span.weights,
-      weight_positive span.lo,
-    )
+put-requires-clause-most c = search (rules, weight_positive)
 
 pub returns : goal.returns
 returns c =

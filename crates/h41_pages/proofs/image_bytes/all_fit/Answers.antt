@@ -1,4 +1,4 @@
-use Rattle.std.proofs.Common.{◌≡◌, ◌+◌, ◌<◌, ℕ, List, true, false, ◌&&◌, map, arith, ap, sym, ◌∙◌}
+use Rattle.std.proofs.Common.{◌≡◌, ◌+◌, ◌<◌, ℕ, List, ◌&&◌, map, ap, rules}
 use Rattle.std.specs.List.{list_all}
 use Rattle.std.proofs.lemmas.Grind.{common_steps}
 use Rattle.h41_pages.specs.Addresses.{page_size}
@@ -17,22 +17,10 @@ pub fits-step : (bytes : List ℕ) (offset : ℕ) → offset < page_size
 fits-step bytes offset below = ap (list_all is_word) (map-step (word_in_bytes bytes) offset page_size below)
 
 pub returns-then-word_from-gt1023 : goal.returns-then-word_from-gt1023
-returns-then-word_from-gt1023 c =
-    let bytes = c.args.bytes.now in
-    let above : is_word (word_in_bytes bytes c.loop-offset.offset) ≡ false =
-    grind (arith, common_steps, c.word_from.ensures, c.if-word_from-gt1023.true) in
-    sym (c.loop-offset.invariant ∙ fits-step bytes c.loop-offset.offset c.loop-offset-test.true
-    ∙ ap (λ b. b && list_all is_word (map (word_in_bytes bytes) (up_to (c.loop-offset.offset + 1) page_size))) above)
+returns-then-word_from-gt1023 c = search (rules, common_steps, fits-step)
 
 pub loop-offset-preserved : goal.loop-offset-preserved
-loop-offset-preserved c =
-    let bytes = c.args.bytes.now in
-    let fits : is_word (word_in_bytes bytes c.loop-offset.offset) ≡ true =
-    grind (arith, common_steps, c.word_from.ensures, c.if-word_from-gt1023.false) in
-    c.loop-offset.invariant ∙ fits-step bytes c.loop-offset.offset c.loop-offset-test.true
-    ∙ ap (λ b. b && list_all is_word (map (word_in_bytes bytes) (up_to (c.loop-offset.offset + 1) page_size))) fits
+loop-offset-preserved c = search (rules, common_steps, fits-step)
 
 pub returns : goal.returns
-returns c =
-    sym (c.loop-offset.invariant
-    ∙ ap (list_all is_word) (map-none (word_in_bytes c.args.bytes.now) c.loop-offset.offset page_size c.loop-offset-test.false))
+returns c = search (rules, map-none)

@@ -1,8 +1,8 @@
-use Rattle.std.proofs.Common.{◌≡◌, ℕ, List, Option, Some, None, length, true, arith, ap, sym, ◌∙◌}
+use Rattle.std.proofs.Common.{◌≡◌, ℕ, List, Option, None, length, true, arith, ap, sym, ◌∙◌, rules}
 use Rattle.std.specs.Prelude.{IfSome}
 use Rattle.std.proofs.lemmas.Grind.{common_steps}
 use Rattle.h41_pages.specs.Addresses.{page_size}
-use Rattle.h41_pages.specs.PageMap.{PageImage, IsHeldImage, is_image, bank_numbered, bank_place, image_at}
+use Rattle.h41_pages.specs.PageMap.{PageImage, IsHeldImage, is_image}
 use Rattle.h41_pages.specs.Images.{image_bytes, first_words, words_in, read_refusal}
 use Rattle.h41_pages.proofs.RoundTrip.{read_back, bytes_count}
 use Rattle.h41_pages.proofs.laws.image_round_trip.Goals as goal
@@ -17,9 +17,7 @@ pub returns-clause-words : goal.returns-clause-words
 returns-clause-words c = λ words image. same_words words (is_whole words image)
 
 read_again : (words : List ℕ) → is_image words ≡ true → read_refusal (image_bytes words) ≡ None
-read_again words image =
-    let whole = is_whole words image in
-    grind (arith, common_steps, image, bytes_count words, same_words words whole, whole)
+read_again words image = search (rules, is_whole, common_steps, bytes_count, same_words)
 
 pub returns-clause-read : goal.returns-clause-read
 returns-clause-read c = read_again
@@ -28,11 +26,7 @@ returns-clause-read c = read_again
 read_of : (page place : ℕ) (image : Option PageImage) (bytes : List ℕ) → IfSome image (IsHeldImage page place)
     → IfSome image (λ plugged. bytes ≡ image_bytes plugged.words)
     → IfSome image (λ plugged. (read_refusal bytes ≡ None) × (words_in bytes ≡ plugged.words))
-read_of page place None bytes held are = tt
-read_of page place (Some image) bytes held are =
-    (ap read_refusal are ∙ read_again image.words held.words, ap words_in are ∙ same_words image.words (is_whole image.words held.words))
+read_of page place image bytes held are = grind (arith, read_again, same_words, is_whole)
 
 pub returns-clause-plugged : goal.returns-clause-plugged
-returns-clause-plugged c = λ pages page number bytes is are.
-    read_of page (bank_place (bank_numbered number)) (image_at pages page (bank_numbered number))
-    bytes (is.each page (bank_place (bank_numbered number))) are
+returns-clause-plugged c = search (rules, read_of)

@@ -1,4 +1,4 @@
-use Rattle.std.proofs.Common.{◌≡◌, ◌≤◌, ◌+◌, ◌-◌, min, length, ap, refl, ◌∙◌, arith}
+use Rattle.std.proofs.Common.{◌≡◌, ◌≤◌, ◌+◌, ◌-◌, min, length, ap, ◌∙◌, arith, rules}
 use Rattle.h41_ram.specs.RamState.{RamState}
 use Rattle.h41_ram.specs.RegisterMap.{curtain_of}
 use Rattle.h41_rows.proofs.ClearedData.{cleared_all, cleared_more, cleared_none, partly_cleared}
@@ -6,11 +6,7 @@ use Rattle.h41_rows.proofs.MarksLeft.{data_apart, left_by_apart, same_apart, the
 use Rattle.h41_rows.proofs.clearing.clear_data.Goals as goal
 
 pub loop-place-init : goal.loop-place-init
-loop-place-init g c = record {
-  memory = cleared_none c.args.ram.now.registers c.min-first.result;
-  mark = c.mark_is_kept.ensures.stays c.args.ram.now;
-  left = λ sound. refl;
-}
+loop-place-init g c = search (rules, cleared_none)
 
 pub loop-place-preserved : goal.loop-place-preserved
 loop-place-preserved g c =

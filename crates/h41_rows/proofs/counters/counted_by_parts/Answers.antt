@@ -1,9 +1,7 @@
-use Rattle.std.proofs.Common.{◌≡◌, ◌/◌, ◌%◌, ◌^◌, ap, sym, subst, ◌∙◌, arith}
-use Rattle.std.specs.Prelude.{ℤ, ◌+ℤ◌, ◌==◌, if◌then◌else◌, unsigned_abs}
+use Rattle.std.proofs.Common.{◌≡◌, ◌/◌, ◌%◌, ◌^◌, ap, subst, ◌∙◌, arith, rules}
+use Rattle.std.specs.Prelude.{ℤ, ◌==◌, if◌then◌else◌}
 use Rattle.h41_decimal.specs.NearestDecimal.{Nearest}
-use Rattle.h41_decimal.specs.Signs.{with_sign}
 use Rattle.h41_decimal.specs.Units.{one, size, units}
-use Rattle.h41_rows.specs.Counters.{fraction_of}
 use Rattle.h41_rows.specs.private.Counting.{count_in}
 use Rattle.h41_rows.proofs.Counts.{counts_ones, counts_whole, few_ones, fraction_size, rest_size}
 use Rattle.h41_rows.proofs.counters.counted_by_parts.Goals as goal
@@ -17,12 +15,7 @@ stepped-requires-clause-few_ones c =
     omega (arith, low, small)
 
 pub returns-in-Zero : goal.returns-in-Zero
-returns-in-Zero c =
-    let z = units c.args.number in
-    let none : fraction_of z ≡ 0 =
-    sym (fraction_size z (units c.fraction.result) c.fraction.ensures) ∙ ap (λ t. unsigned_abs (units t)) c.in-Zero.is in
-    let e : z +ℤ units c.below_hundred.result ≡ z +ℤ with_sign c.args.direction one = ap (λ (t : ℤ). z +ℤ t) c.below_hundred.ensures in
-    subst (λ (t : ℤ). Nearest t 1 c.add.result) (e ∙ sym (counts_whole z c.args.direction none)) c.add.ensures
+returns-in-Zero c = search (rules, fraction_size, counts_whole)
 
 pub returns-in-Some : goal.returns-in-Some
 returns-in-Some c =

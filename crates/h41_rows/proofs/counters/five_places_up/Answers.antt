@@ -1,5 +1,5 @@
 -- The integer part after the radix mark is moved five places to the right.
-use Rattle.std.proofs.Common.{◌+◌, ◌*◌, ◌^◌, ◌≤◌, arith}
+use Rattle.std.proofs.Common.{rules}
 use Rattle.h41_rows.proofs.Decimals.{shifted_ones, not_many}
 use Rattle.h41_rows.proofs.counters.five_places_up.Goals as goal
 
@@ -7,8 +7,4 @@ pub returns-in-Some : goal.returns-in-Some
 returns-in-Some c = shifted_ones c.args.x.mantissa.digits c.args.x.exponent.biased c.in-Some.ones c.in-Some.ensures.ones
 
 pub returns-in-None : goal.returns-in-None
-returns-in-None c =
-    let x = c.args.x in
-    let less = not_many x.mantissa.digits x.exponent.biased x.mantissa.below c.requires in
-    let many : 10 ^ 10 * 10 ^ 108 ≤ x.mantissa.digits * 10 ^ (x.exponent.biased + 5) = c.in-None.ensures.many in
-    absurd (omega (arith, less, many))
+returns-in-None c = search (rules, not_many)

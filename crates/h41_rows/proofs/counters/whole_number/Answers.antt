@@ -1,5 +1,4 @@
-use Rattle.std.proofs.Common.{ap}
-use Rattle.h41_decimal.specs.Signs.{with_sign}
+use Rattle.std.proofs.Common.{rules}
 use Rattle.h41_rows.proofs.Counts.{filled, log_few, whole_worth}
 use Rattle.h41_rows.proofs.counters.whole_number.Goals as goal
 
@@ -14,7 +13,4 @@ invariant_of-mantissa c =
     record { at_least = h.0; below = h.1 }
 
 pub returns : goal.returns
-returns c =
-    let log = c.ilog10-log.result in
-    let fits = log_few log c.args.ones c.ilog10-log.ensures.power_le c.requires in
-    ap (with_sign c.args.sign) (whole_worth log c.args.ones c.pow.result c.pow.ensures fits)
+returns c = search (rules, log_few, whole_worth)

@@ -1,7 +1,7 @@
-use Rattle.std.proofs.Common.{◌∙◌, ap, refl, subst, sym}
+use Rattle.std.proofs.Common.{◌∙◌, ap, rules}
 use Rattle.h41_ram.specs.RamState.{RamState}
 use Rattle.h41_rows.proofs.Lifts.{in_lifted, in_x}
-use Rattle.h41_rows.proofs.MarksLeft.{Passed, none_yet, then_status}
+use Rattle.h41_rows.proofs.MarksLeft.{none_yet, then_status}
 use Rattle.h41_rows.proofs.stack.bring_in.Goals as goal
 use Rattle.h41_rows.proofs.stack.bring_in.Goals.{then-lift, else-lift}
 
@@ -17,12 +17,4 @@ returns-clause-change g c named =
     ])
 
 pub returns-clause-left : goal.returns-clause-left
-returns-clause-left g c =
-    let entered : Passed c.args.ram.now c.if-lift.ram = elim c.if-lift.branch [
-      | then-lift w ↦
-          subst (λ (ram : RamState). Passed c.args.ram.now ram) (sym w.ram-is)
-          (record { keeps = w.enter.ensures.mark; left = w.enter.ensures.left })
-      | else-lift w ↦ subst (λ (ram : RamState). Passed c.args.ram.now ram) (sym w.ram-is) (none_yet c.args.ram.now)
-    ] in
-    (then_status _ _ _ 3 entered c.set_status_register.ensures.mark
-    (ap (λ (ram : RamState). ram.touched) c.set_status_register.ensures.written) refl).left
+returns-clause-left g c = search (rules, then-lift, else-lift, none_yet, then_status)

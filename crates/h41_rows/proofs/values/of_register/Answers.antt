@@ -1,3 +1,4 @@
+use Rattle.std.proofs.Common.{rules}
 use Rattle.h41_rows.proofs.Working.{works_one, works_without}
 use Rattle.h41_rows.proofs.values.of_register.Goals as goal
 
@@ -7,6 +8,4 @@ returns-in-Ok c =
     c.kept_of_one.ensures
 
 pub returns-in-Err : goal.returns-in-Err
-returns-in-Err c =
-    works_without c.args.value c.args.register c.args.places c.args.ignores_range c.in-Err.fault c.without_number.result
-    c.in-Err.ensures.0 c.in-Err.ensures.1 c.without_number.ensures
+returns-in-Err c = search (rules, works_without)

@@ -1,5 +1,5 @@
 -- How many bytes there are at most.
-use Rattle.std.proofs.Common.{length, decimal, ap, ◌∙◌, arith, length-append}
+use Rattle.std.proofs.Common.{decimal, arith, length-append, rules}
 use Rattle.h41_show.proofs.DecimalTexts.{length-decimal_most}
 use Rattle.h41_show.proofs.number.push_integer.Goals as goal
 
@@ -13,7 +13,4 @@ pub returns-then-format-clause-most : goal.returns-then-format-clause-most
 returns-then-format-clause-most c = let size = length-decimal_most c.args.whole (omega arith) in omega arith
 
 pub returns-else-format-clause-most : goal.returns-else-format-clause-most
-returns-else-format-clause-most c =
-    let size = length-decimal_most c.args.whole (omega arith) in
-    let written = ap length c.push_decimal.ensures ∙ length-append c.args.text.now.bytes (decimal c.args.whole) in
-    omega arith
+returns-else-format-clause-most c = search (rules, length-decimal_most, length-append, decimal)

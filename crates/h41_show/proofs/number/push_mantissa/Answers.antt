@@ -1,5 +1,5 @@
 -- How many bytes there are at most.
-use Rattle.std.proofs.Common.{◌/◌, [], ◌∷◌, length, decimal, ap, ◌∙◌, arith, length-append}
+use Rattle.std.proofs.Common.{◌/◌, decimal, arith, length-append, rules}
 use Rattle.h41_show.proofs.DecimalTexts.{length-decimal_most}
 use Rattle.h41_show.proofs.Powers.{power_pos}
 use Rattle.h41_show.proofs.number.push_mantissa.Goals as goal
@@ -11,21 +11,10 @@ pub push_decimal-requires : goal.push_decimal-requires
 push_decimal-requires c = let size = length-decimal_most (c.args.count / c.power_of_ten.result) (omega arith) in omega arith
 
 pub push_byte-requires-clause-room : goal.push_byte-requires-clause-room
-push_byte-requires-clause-room c =
-    let size = length-decimal_most (c.args.count / c.power_of_ten.result) (omega arith) in
-    let whole = ap length c.push_decimal.ensures ∙ length-append c.args.text.now.bytes (decimal (c.args.count / c.power_of_ten.result)) in
-    omega arith
+push_byte-requires-clause-room c = search (rules, length-decimal_most, length-append, decimal)
 
 pub push_digits-requires : goal.push_digits-requires
-push_digits-requires c =
-    let size = length-decimal_most (c.args.count / c.power_of_ten.result) (omega arith) in
-    let whole = ap length c.push_decimal.ensures ∙ length-append c.args.text.now.bytes (decimal (c.args.count / c.power_of_ten.result)) in
-    let mark = ap length c.push_byte.ensures ∙ length-append c.push_decimal.new.text.bytes (c.radix_byte.result ∷ []) in
-    omega arith
+push_digits-requires c = search (rules, length-decimal_most, length-append, decimal)
 
 pub returns-clause-most : goal.returns-clause-most
-returns-clause-most c =
-    let size = length-decimal_most (c.args.count / c.power_of_ten.result) (omega arith) in
-    let whole = ap length c.push_decimal.ensures ∙ length-append c.args.text.now.bytes (decimal (c.args.count / c.power_of_ten.result)) in
-    let mark = ap length c.push_byte.ensures ∙ length-append c.push_decimal.new.text.bytes (c.radix_byte.result ∷ []) in
-    omega arith
+returns-clause-most c = search (rules, length-decimal_most, length-append, decimal)

@@ -1,17 +1,11 @@
-use Rattle.std.proofs.Common.{◌≡◌, get_or, arith, ap, sym, ◌∙◌}
+use Rattle.std.proofs.Common.{◌≡◌, get_or, arith, sym, ◌∙◌, rules}
 use Rattle.h41_codes.specs.ByteGrammar.{spelling}
-use Rattle.h41_program.specs.Lines.{is_label}
-use Rattle.h41_program.specs.declared.listed_line.ListedLine.{ListedLine}
 use Rattle.h41_program.specs.declared.reading.Found.{Found}
 use Rattle.h41_walk.proofs.LabelBytes.{byte_first, byte_inside, no_label}
 use Rattle.h41_walk.proofs.searches.is_label_at.Goals as goal
 
 pub byte_at-first-requires-clause-inside : goal.byte_at-first-requires-clause-inside
-byte_at-first-requires-clause-inside g c =
-    let place = c.args.place.now in
-    let has = c.requires.place in
-    let found : Found = record { listed = record { position = place.position; line = has.0 }; behind = place.behind } in
-    byte_inside (g.C.Code.source c.args.code.now) c.args.at found has.1
+byte_at-first-requires-clause-inside g c = search (rules, byte_inside)
 
 pub returns-then-first : goal.returns-then-first
 returns-then-first g c line has =
@@ -21,11 +15,6 @@ returns-then-first g c line has =
     byte_first (g.C.Code.source c.args.code.now) c.args.at found has ∙ sym c.byte_at-first.ensures in
     sym (no_label c.args.label line has.first.begins.spells.valid
     (omega (arith, byte, c.if-first-ge16.true)) (λ is. c.if-first.true (sym byte ∙ is)))
-
-pub returns-in-Some : goal.returns-in-Some
-returns-in-Some g c line has =
-    let same = c.in-Some.ensures.first.one (record { position = c.args.place.now.position; line = line }) has.first in
-    c.is_label.ensures ∙ ap (λ (listed : ListedLine). is_label c.args.label listed.line) (sym same)
 
 pub returns-in-None : goal.returns-in-None
 returns-in-None g c line has =

@@ -1,4 +1,4 @@
-use Rattle.std.proofs.Common.{ap, slice_index, ◌≡◌, ◌+◌, ◌<◌, ◌≢◌, length, arith, subst, ◌∙◌}
+use Rattle.std.proofs.Common.{◌≡◌, ◌+◌, ◌<◌, ◌≢◌, length, arith, subst, ◌∙◌, rules}
 use Rattle.std.proofs.lemmas.List.{get_or-set_other}
 use Rattle.h41_arith.specs.DigitRule.{carry_digit}
 use Rattle.h41_arith.specs.private.DigitOperations.{rule_of}
@@ -6,12 +6,7 @@ use Rattle.h41_arith.proofs.Carries.{CarriedTo, carried_none, carried_more, carr
 use Rattle.h41_arith.proofs.sums.DigitOperation.over_places.Goals as goal
 
 pub loop-place-init : goal.loop-place-init
-loop-place-init c = record {
-  carried = carried_none (rule_of c.args.self 10) c.args.x c.args.y (carry_digit c.args.carry_in) c.args.lo c.zero-digits.result;
-  below = λ place h. ap (λ digits. slice_index digits place) c.zero-digits.ensures;
-  above = λ place h. ap (λ digits. slice_index digits place) c.zero-digits.ensures;
-  registers = λ h. absurd (omega arith);
-}
+loop-place-init c = search (rules, carried_none)
 
 pub loop-place-preserved : goal.loop-place-preserved
 loop-place-preserved c =
@@ -54,9 +49,3 @@ returns-clause-result c =
           c.args.hi c.loop-place.digits (carry_digit c.loop-place.carry) (carry_le c.args.carry_in) done;
       outside = record { below = c.loop-place.invariant.below; above = λ place high. c.loop-place.invariant.above place (omega arith) };
     }
-
-pub returns-clause-first : goal.returns-clause-first
-returns-clause-first c = (c.loop-place.invariant.registers (omega (arith, c.requires.ordered))).1
-
-pub returns-clause-second : goal.returns-clause-second
-returns-clause-second c = (c.loop-place.invariant.registers (omega (arith, c.requires.ordered))).2

@@ -1,17 +1,14 @@
-use Rattle.std.proofs.Common.{◌≡◌, ◌↔◌, ◌∙◌, ℕ, List, Ok, ap, sym, subst, drop, take, length, ◌-◌, arith}
+use Rattle.std.proofs.Common.{◌≡◌, ◌↔◌, ◌∙◌, ℕ, List, Ok, ap, sym, subst, drop, take, length, ◌-◌, rules}
 use Rattle.std.proofs.lemmas.List.{drop-map, length-drop, take_all}
 use Rattle.h41_codes.specs.ByteGrammar.{Begins}
 use Rattle.h41_codes.specs.declared.line.Line.{Line}
-use Rattle.h41_pages.specs.KeystrokeCode.{code_byte, code_from}
+use Rattle.h41_pages.specs.KeystrokeCode.{code_from}
 use Rattle.h41_pages.proofs.Labels.{name_is_read, name_read}
 use Rattle.h41_pages.proofs.image.Image.label_name.Goals as goal
 
 code_behind : (words code : List ℕ) (offset : ℕ) → code ≡ code_from words 0
     → take (length code - offset) (drop offset code) ≡ code_from words offset
-code_behind words code offset is =
-    take_all (length code - offset) (drop offset code) (omega (arith, length-drop offset code))
-    ∙ ap (drop offset) is
-    ∙ drop-map code_byte offset words
+code_behind words code offset is = search (rules, take_all, length-drop, drop-map)
 
 pub returns-in-Ok : goal.returns-in-Ok
 returns-in-Ok c =

@@ -1,4 +1,4 @@
-use Rattle.std.proofs.Common.{arith, rules, sym, ◌∙◌}
+use Rattle.std.proofs.Common.{arith, rules}
 use Rattle.std.proofs.lemmas.List.FromFn.{length-map-range_with_len}
 use Rattle.h41_program.specs.ProgramBytes.{byte_count, program_byte}
 use Rattle.h41_program.proofs.Memory.{byte_there}
@@ -11,8 +11,4 @@ byte_at-requires g c =
     (search rules, omega (arith, inside, length-map-range_with_len (program_byte memory) 0 (byte_count memory)))
 
 pub returns : goal.returns
-returns g c =
-    let memory = c.args.self.now.registers in
-    let inside = c.requires.inside in
-    c.byte_at.ensures
-    ∙ sym (byte_there memory c.args.at (omega (arith, inside, length-map-range_with_len (program_byte memory) 0 (byte_count memory))))
+returns g c = search (rules, byte_there, length-map-range_with_len)

@@ -220,7 +220,8 @@ module _ (same_refusal : StepRefusalIsDetermined) (same_step : StepIsDetermined)
       → RefusesStep t.calculator None → Step t.calculator next.calculator → next ≡ with_calculator next.calculator t
       → MakesSteps limit (made + 1) s next
   made_more limit made s t next so_far stop below accepted step others = record {
-    steps = rw others (steps_add made 1 s t (with_calculator next.calculator t) None so_far.steps (one_step t next.calculator accepted step));
+    steps =
+        rw others (steps_add made 1 s t (with_calculator next.calculator t) None so_far.steps (one_step t next.calculator accepted step));
     before = λ running. none_more limit made s t (goes_on limit made s t so_far stop running) below accepted;
   }
 

@@ -1,6 +1,6 @@
 -- How the loops that make single steps continue.
-use Rattle.std.proofs.Common.{◌≡◌, ◌<◌, ◌≤◌, ℕ, ◌+◌, Bool, true, false, nat_lt, Option, Some, None, refl, sym, ap}
-use Rattle.std.proofs.Common.{subst, ◌∙◌, arith, Fits, w32}
+use Rattle.std.proofs.Common.{◌≡◌, ◌<◌, ◌≤◌, ℕ, ◌+◌, ◌-◌, Bool, true, false, nat_lt, Option, Some, None, refl, sym, ap, rules}
+use Rattle.std.proofs.Common.{subst, arith, Fits, w32}
 use Rattle.std.specs.Prelude.{if◌then◌else◌}
 use Rattle.h41_xrom.specs.declared.calculator.Caller.{Caller}
 use Rattle.h41_xrom.specs.declared.calculator.Mode.{Mode}
@@ -52,8 +52,7 @@ clear_behind behind t caller mode free =
     (ap (λ (set : Bool). if set then Some Break else None) free))
 
 -- The same holds after a line with which a program continues.
-pub clear_in_program : (behind : Bool) (t : BenchState) → t.calculator.mode ≡ modes.Run → stop_running t ≡ None → stop_after behind t
-    ≡ None
+pub clear_in_program : (behind : Bool) (t : BenchState) → t.calculator.mode ≡ modes.Run → stop_running t ≡ None → stop_after behind t ≡ None
 clear_in_program behind t mode clear =
     stop_either behind t (subst (λ (m : Mode). (if is_idle m then Some Idle else stop_running t) ≡ None) (sym mode) clear)
 
@@ -70,9 +69,7 @@ idle_stops behind s is mode = rw (is, mode) refl
 
 pub running_stops : (behind : Bool) (s : BenchState) (m : Mode) → behind ≡ true → m ≡ s.calculator.mode → (m ≡ modes.Idle → ⊥)
     → (stop : Option Stop) → stop ≡ stop_running s → stop ≡ stop_after behind s
-running_stops behind s m is mode other stop same =
-    let runs : is_idle s.calculator.mode ≡ false = ap is_idle (sym mode) ∙ not_idle m other in
-    rw (is, runs) same
+running_stops behind s m is mode other stop same = search (rules, not_idle)
 
 module _ (same_refusal : StepRefusalIsDetermined) (same_step : StepIsDetermined) where
   -- One step more.
@@ -80,45 +77,27 @@ module _ (same_refusal : StepRefusalIsDetermined) (same_step : StepIsDetermined)
       → ((start : BenchState) → MakesSteps limit from start first → MakesSteps limit made start s) → stop_after (nat_lt 0 made) s ≡ None
       → made < limit → RefusesStep s.calculator None → Step s.calculator t.calculator → t ≡ with_calculator t.calculator s
       → (start : BenchState) → MakesSteps limit from start first → MakesSteps limit (made + 1) start t
-  one_more limit from made first s t so_far clear below accepted step others start begun =
-      made_more same_refusal same_step limit made start s t (so_far start begun) clear below accepted step others
+  one_more limit from made first s t so_far clear below accepted step others start begun = search (rules, made_more)
 
   -- A piece of steps that ends with this one.
   pub ends_piece : (limit from made : ℕ) (first s t : BenchState)
       → ((start : BenchState) → MakesSteps limit from start first → MakesSteps limit made start s) → s.breakpoints ≡ first.breakpoints
       → from ≤ made → stop_after (nat_lt 0 made) s ≡ None → made < limit → RefusesStep s.calculator None → Step s.calculator t.calculator
       → t ≡ with_calculator t.calculator s → Advances limit from first (made + 1) t None
-  ends_piece limit from made first s t so_far kept behind clear below accepted step others = record {
-    most = omega (arith, below);
-    goes_on = one_more limit from made first s t so_far clear below accepted step others;
-    kept = ap (λ (at : BenchState). at.breakpoints) others ∙ kept;
-    ends = omega (arith, behind);
-  }
+  ends_piece limit from made first s t so_far kept behind clear below accepted step others = search (rules, one_more)
 
 -- A piece of steps after which the next one is refused.
 pub refused_piece : (limit from made : ℕ) (first s t : BenchState) (why : CalculatorRefusal)
     → ((start : BenchState) → MakesSteps limit from start first → MakesSteps limit made start s) → s.breakpoints ≡ first.breakpoints
     → stop_after (nat_lt 0 made) s ≡ None → made < limit → RefusesStep s.calculator (Some why) → t ≡ s
     → Advances limit from first made t (Some why)
-refused_piece limit from made first s t why so_far kept clear below refused stays =
-    subst (λ (at : BenchState). Advances limit from first made at (Some why)) (sym stays) (record {
-      most = omega (arith, below);
-      goes_on = so_far;
-      kept = kept;
-      ends = (below, clear, refused);
-    })
+refused_piece limit from made first s t why so_far kept clear below refused stays = search rules
 
 -- A piece of all steps up to one.
 pub all_steps : (limit from made until : ℕ) (first t : BenchState)
     → ((start : BenchState) → MakesSteps limit from start first → MakesSteps limit made start t) → t.breakpoints ≡ first.breakpoints
     → until ≤ made → made ≤ until → until ≤ limit → from < until → Advances limit from first until t None
-all_steps limit from made until first t so_far kept all most few more = record {
-  most = few;
-  goes_on = subst (λ n. (start : BenchState) → MakesSteps limit from start first → MakesSteps limit n start t)
-      (omega (arith, all, most)) so_far;
-  kept = kept;
-  ends = more;
-}
+all_steps limit from made until first t so_far kept all most few more = search rules
 
 -- The numbers of steps.
 pub same : (n : ℕ) → n ≤ n
@@ -129,3 +108,6 @@ up_to from limit below = omega (arith, below)
 
 pub next_fits : (word until limit : ℕ) → word < until → until ≤ limit → Fits w32 limit → Fits w32 (word + 1)
 next_fits word until limit below most fits = omega (arith, below, most, fits)
+
+pub less_left : (limit made now : ℕ) → made < limit → made < now → limit - now < limit - made
+less_left limit made now below more = omega (arith, below, more)

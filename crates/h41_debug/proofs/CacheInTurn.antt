@@ -1,17 +1,13 @@
 -- The label cache after single steps in turn, and after keys in turn.
-use Rattle.std.proofs.Common.{◌≡◌, ◌<◌, ◌≤◌, ℕ, zero, suc, ◌+◌, Bool, true, false, List, [], ◌∷◌, Option, Some, None}
-use Rattle.std.proofs.Common.{refl, sym, ap, subst, ◌∙◌, arith}
+use Rattle.std.proofs.Common.{◌≡◌, ◌<◌, ℕ, zero, suc, ◌+◌, Bool, true, false, List, ◌∷◌, Option, Some, None, rules, refl, arith}
 use Rattle.std.specs.Prelude.{if◌then◌else◌}
-use Rattle.h41_breakpoints.specs.Breakpoints.{is_set}
-use Rattle.h41_debug.specs.Positions.{location_of}
-use Rattle.h41_debug.specs.KeptInTurn.{KeepsAfterCount, KeepsAfterKeys, KeepsAfterSteps, KeepsAfterTries, KeepsAfterRun, refusal_of}
+use Rattle.h41_debug.specs.KeptInTurn.{KeepsAfterKeys, KeepsAfterSteps, KeepsAfterTries, KeepsAfterRun, refusal_of}
 use Rattle.h41_debug.specs.declared.run.Stop.{Stop}
-use Rattle.h41_debug.specs.declared.run.Stop.TheVariants.{Break, Idle, Limit, Refused}
-use Rattle.h41_debug.specs.private.Advancing.{KeepsOn}
-use Rattle.h41_debug.specs.private.Running.{runs_function, stop_after, stop_at, stop_running}
+use Rattle.h41_debug.specs.declared.run.Stop.TheVariants.{Break, Idle, Refused}
+use Rattle.h41_debug.specs.private.Running.{runs_function, stop_after}
 use Rattle.h41_debug.specs.Bench.{BenchState}
 use Rattle.h41_keys.specs.declared.key.Key.{Key}
-use Rattle.h41_xrom.specs.Calculator.{RefusesStep, Step, is_idle, machine_of}
+use Rattle.h41_xrom.specs.Calculator.{RefusesStep, Step, machine_of}
 use Rattle.h41_xrom.specs.KeptLabels.{KeepsAfterKey, KeepsAfterLine, KeepsAfterStep, KeepsAfterStepIn}
 use Rattle.h41_xrom.specs.KeyActions.{Presses}
 use Rattle.h41_xrom.specs.LabelledCalculator.{LabelledCalculator}
@@ -34,9 +30,7 @@ line_is_step done s t none keeps = line_keeps s.state.mode done s t none keeps
 -- One more step.
 pub one_more : (made : ℕ) (start s t : LabelledCalculator) → KeepsAfterSteps made start s → Step s.state t.state → KeepsAfterStep true s t
     → KeepsAfterSteps (made + 1) start t
-one_more made start s t before step kept =
-    let sum : suc made ≡ made + 1 = omega arith in
-    subst (λ n. KeepsAfterSteps n start t) sum (s, before, step, kept)
+one_more made start s t before step kept = let sum : suc made ≡ made + 1 = omega arith in rw (← sum) (s, before, step, kept)
 
 -- A refused step after them.
 pub one_tried : (made : ℕ) (start s t : LabelledCalculator) (why : CalculatorRefusal) → KeepsAfterSteps made start s
@@ -46,28 +40,25 @@ one_tried made start s t why before refused same kept = (s, before, refused, sam
 -- Steps that follow others.
 pub steps_add : (count more : ℕ) (s t u : LabelledCalculator) → KeepsAfterSteps count s t → KeepsAfterSteps more t u
     → KeepsAfterSteps (count + more) s u
-steps_add count zero s t u before rest =
-    let sum : count ≡ count + 0 = omega arith in
-    subst (λ n. KeepsAfterSteps n s u) sum (subst (λ (at : LabelledCalculator). KeepsAfterSteps count s at) (sym rest) before)
+steps_add count zero s t u before rest = search rules
 steps_add count (suc more) s t u before (last, rest, step, kept) =
     let sum : suc (count + more) ≡ count + suc more = omega arith in
-    subst (λ n. KeepsAfterSteps n s u) sum (last, steps_add count more s t last before rest, step, kept)
+    rw (← sum) (last, steps_add count more s t last before rest, step, kept)
 
 pub tries_add : (count more : ℕ) (s t u : LabelledCalculator) (why : CalculatorRefusal) → KeepsAfterSteps count s t
     → KeepsAfterTries more (Some why) t u → KeepsAfterTries (count + more) (Some why) s u
-tries_add count more s t u why before (last, rest, refused, same, kept) =
-    (last, steps_add count more s t last before rest, refused, same, kept)
+tries_add count more s t u why before (last, rest, refused, same, kept) = search (rules, steps_add)
 
 -- A single step.
 of_one : (s t : LabelledCalculator) → KeepsAfterSteps 1 s t → KeepsAfterStep true s t
-of_one s t (last, same, step, kept) = subst (λ (at : LabelledCalculator). KeepsAfterStep true at t) same kept
+of_one s t (last, same, step, kept) = rw (← same) kept
 
 pub one_made : (s t : LabelledCalculator) (made : ℕ) → made ≡ 1 → KeepsAfterSteps made s t → KeepsAfterStep true s t
-one_made s t made one steps = of_one s t (subst (λ n. KeepsAfterSteps n s t) one steps)
+one_made s t made one steps = of_one s t (rw one at steps)
 
 pub none_made : (s t : LabelledCalculator) (made : ℕ) (why : CalculatorRefusal) → made < 1 → KeepsAfterTries made (Some why) s t
     → KeepsAfterStep false s t
-none_made s t zero why none (last, same, refused, stays, kept) = subst (λ (at : LabelledCalculator). KeepsAfterStep false at t) same kept
+none_made s t zero why none (last, same, refused, stays, kept) = rw (← same) kept
 none_made s t (suc made) why none tries = absurd (omega (arith, none))
 
 -- Why a run ends.
@@ -79,23 +70,22 @@ unrefused stop other = refl
 stopped : (behind idle set : Bool) (stop : Stop)
     → ◌≡◌ {A = Option Stop} (if behind then (if idle then Some Idle else (if set then Some Break else None)) else None) (Some stop)
     → refusal_of stop ≡ None
-stopped true true set stop is = let same : Idle ≡ stop = cc in subst (λ (of : Stop). refusal_of of ≡ None) same refl
-stopped true false true stop is = let same : Break ≡ stop = cc in subst (λ (of : Stop). refusal_of of ≡ None) same refl
+stopped true true set stop is = let same : Idle ≡ stop = cc in rw (← same) refl
+stopped true false true stop is = let same : Break ≡ stop = cc in rw (← same) refl
 stopped true false false stop is = absurd (let no : ⊥ = cc in no)
 stopped false idle set stop is = absurd (let no : ⊥ = cc in no)
 
 pub stops_unrefused : (behind : Bool) (s : BenchState) (stop : Stop) → stop_after behind s ≡ Some stop → refusal_of stop ≡ None
-stops_unrefused behind s stop is =
-    stopped behind (is_idle s.calculator.mode) (is_set s.breakpoints (location_of s.calculator)) stop is
+stops_unrefused behind s stop is = search (rules, stopped)
 
 -- Steps that do not end for a refusal, and steps that do.
 pub ended : (made : ℕ) (s t : LabelledCalculator) (stop : Stop) → refusal_of stop ≡ None → KeepsAfterSteps made s t
     → KeepsAfterRun made stop s t
-ended made s t stop none steps = subst (λ (why : Option CalculatorRefusal). KeepsAfterTries made why s t) (sym none) steps
+ended made s t stop none steps = rw none steps
 
 pub tries_as : (made : ℕ) (s t : LabelledCalculator) (told why : Option CalculatorRefusal) → told ≡ why → KeepsAfterTries made told s t
     → KeepsAfterTries made why s t
-tries_as made s t told why is tries = subst (λ (of : Option CalculatorRefusal). KeepsAfterTries made of s t) is tries
+tries_as made s t told why is tries = rw (← is) tries
 
 -- One key, and the keys after it.
 pub key_more : (keys more : List Key) (key : Key) (s next t : LabelledCalculator) → keys ≡ key ∷ more → Presses key s.state next.state None

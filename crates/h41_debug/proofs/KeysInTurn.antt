@@ -1,5 +1,5 @@
 -- How keys follow one another, and why a state determines their result.
-use Rattle.std.proofs.Common.{◌≡◌, List, [], ◌∷◌, Option, Some, None, refl, sym, subst, ◌∙◌}
+use Rattle.std.proofs.Common.{◌≡◌, List, [], ◌∷◌, Option, Some, None, refl, sym, ◌∙◌}
 use Rattle.std.specs.Prelude.{MatchOption}
 use Rattle.h41_keys.specs.declared.key.Key.{Key}
 use Rattle.h41_xrom.specs.declared.refusal.CalculatorRefusal.{CalculatorRefusal}
@@ -39,10 +39,7 @@ module _ (same_key : KeyIsDetermined) where
   same_keys [] s t u a b p q = (p.0 ∙ sym q.0, p.1 ∙ sym q.1)
   same_keys (key ∷ keys) s t u a b p q =
       let both = same_key key s.calculator p.0 q.0 p.1 q.1 p.2 q.2 in
-      same_more keys (same_keys keys) q.1 s q.0 t u a b
-      (subst (λ (of : Option CalculatorRefusal). After keys s q.0 t a of) both.1
-      (subst (λ (of : CalculatorState). After keys s of t a p.1) both.0 p.3))
-      q.3
+      same_more keys (same_keys keys) q.1 s q.0 t u a b (rw (← both.1, ← both.0) p.3) q.3
 
   pub presses_determined : PressesAreDetermined
   presses_determined keys s t u a b p q = same_keys keys s t u a b p q

@@ -1,5 +1,5 @@
 -- Where the calculator is, by its mode.
-use Rattle.std.proofs.Common.{◌≡◌, ℕ, true, refl, sym, ap, subst, ◌∙◌}
+use Rattle.std.proofs.Common.{◌≡◌, ℕ, true, refl, sym, ap, ◌∙◌}
 use Rattle.h41_breakpoints.specs.declared.location.Location.TheVariants.{Line, Word}
 use Rattle.h41_debug.specs.Positions.{location_in, location_of}
 use Rattle.h41_debug.specs.private.Running.{runs_function}
@@ -11,8 +11,7 @@ use Rattle.h41_xrom.specs.declared.calculator.Mode.TheVariants as modes
 
 pub word_place : (s t : CalculatorState) (m : Mode) (caller : Caller) (at : ℕ) → s ≡ t → m ≡ s.mode → m ≡ modes.Micro caller
     → at ≡ s.nut.processor.pc → Word at ≡ location_of t
-word_place s t m caller at is mode micro pc =
-    subst (λ (u : CalculatorState). Word at ≡ location_of u) is (ap Word pc ∙ ap (location_in s) (sym micro ∙ mode))
+word_place s t m caller at is mode micro pc = rw (← is) (ap Word pc ∙ ap (location_in s) (sym micro ∙ mode))
 
 line_in : (s : CalculatorState) (m : Mode) → ((caller : Caller) → m ≡ modes.Micro caller → ⊥) → Line s.focal.position ≡ location_in s m
 line_in s modes.Idle other = refl
@@ -21,9 +20,7 @@ line_in s (modes.Micro caller) other = absurd (other caller refl)
 
 pub line_place : (s t : CalculatorState) (m : Mode) (at : Position) → s ≡ t → m ≡ s.mode
     → ((caller : Caller) → m ≡ modes.Micro caller → ⊥) → at ≡ s.focal.position → Line at ≡ location_of t
-line_place s t m at is mode other position =
-    subst (λ (u : CalculatorState). Line at ≡ location_of u) is
-    (ap Line position ∙ line_in s m other ∙ ap (location_in s) mode)
+line_place s t m at is mode other position = rw (← is) (ap Line position ∙ line_in s m other ∙ ap (location_in s) mode)
 
 -- A function runs.
 word_in : (s : CalculatorState) (m : Mode) → runs_function m ≡ true → Word s.nut.processor.pc ≡ location_in s m

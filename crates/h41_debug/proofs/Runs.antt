@@ -1,6 +1,6 @@
 -- Runs: how single steps make one, why a state determines it, and how two runs make one.
-use Rattle.std.proofs.Common.{◌≡◌, ◌<◌, ◌≤◌, ◌⊎◌, ℕ, zero, suc, ◌+◌, ◌-◌, inl, inr, Bool, true, false, Option, Some, None, refl, sym, ap}
-use Rattle.std.proofs.Common.{◌∙◌, subst, zero-add, arith}
+use Rattle.std.proofs.Common.{◌≡◌, ◌<◌, ◌≤◌, ◌⊎◌, ℕ, zero, suc, ◌+◌, ◌-◌, inl, inr, Bool, true, false, Option, Some, None, refl, sym}
+use Rattle.std.proofs.Common.{zero-add, arith, rules}
 use Rattle.std.specs.Prelude.{MatchOption, if◌then◌else◌, nat_lt}
 use Rattle.std.specs.Option.{unwrap_or}
 use borrow.Author.Tests.{ltb-true, ltb-false}
@@ -36,21 +36,19 @@ first_step count s t steps = by_why count s t steps.0 steps.1 steps.2
 pub steps_add : (count more : ℕ) (s t u : BenchState) (refusal : Option CalculatorRefusal) → Steps count s t None → Steps more t u refusal
     → Steps (count + more) s u refusal
 unfolding First
-steps_add zero more s t u refusal steps rest =
-    subst (λ k. Steps k s u refusal) (sym (zero-add more)) (subst (λ (from : BenchState). Steps more from u refusal) steps.0 rest)
+steps_add zero more s t u refusal steps rest = rw (zero-add more) (rw (← steps.0) rest)
 steps_add (suc count) more s t u refusal steps rest =
     let first = first_step count s t steps in
     let sum : suc (count + more) ≡ suc count + more = omega arith in
-    subst (λ k. Steps k s u refusal) sum
-    (None, first.0, (first.1.0, first.1.1, steps_add count more (with_calculator first.1.0 s) t u refusal first.1.2 rest))
+    rw (← sum) (None, first.0, (first.1.0, first.1.1, steps_add count more (with_calculator first.1.0 s) t u refusal first.1.2 rest))
 
 pub steps_split : (count more : ℕ) (s u : BenchState) → Steps (count + more) s u None
     → (t : BenchState) × Steps count s t None × Steps more t u None
 unfolding First
-steps_split zero more s u steps = (s, (refl, refl), subst (λ k. Steps k s u None) (zero-add more) steps)
+steps_split zero more s u steps = (s, (refl, refl), rw (zero-add more) at steps)
 steps_split (suc count) more s u steps =
     let sum : suc count + more ≡ suc (count + more) = omega arith in
-    let first = first_step (count + more) s u (subst (λ k. Steps k s u None) sum steps) in
+    let first = first_step (count + more) s u (rw sum at steps) in
     let rest = steps_split count more (with_calculator first.1.0 s) u first.1.2 in
     (rest.0, (None, first.0, (first.1.0, first.1.1, rest.1)), rest.2)
 
@@ -62,11 +60,7 @@ one_step s next accepted step = (None, accepted, (next, step, (refl, refl)))
 pub one_made : (s t : BenchState) → Steps 1 s t None
     → RefusesStep s.calculator None × Step s.calculator t.calculator × (t ≡ with_calculator t.calculator s)
 unfolding First
-one_made s t steps =
-    let first = first_step 0 s t steps in
-    let made : t ≡ with_calculator first.1.0 s = first.1.2.0 in
-    let next : t.calculator ≡ first.1.0 = ap (λ (at : BenchState). at.calculator) made in
-    (first.0, subst (Step s.calculator) (sym next) first.1.1, made ∙ ap (λ at. with_calculator at s) (sym next))
+one_made s t steps = search (rules, first_step)
 
 pub none_made : (made : ℕ) (s t : BenchState) → made < 1 → Steps made s t None → t ≡ s
 none_made zero s t below steps = steps.0
@@ -75,9 +69,7 @@ none_made (suc made) s t below steps = absurd (omega (arith, below))
 -- The steps that remain after some.
 pub steps_left : (left made : ℕ) (s t u : BenchState) (refusal : Option CalculatorRefusal) → made ≤ left → Steps made s t None
     → Steps (left - made) t u refusal → Steps left s u refusal
-steps_left left made s t u refusal most steps rest =
-    let sum : made + (left - made) ≡ left = omega (arith, most) in
-    subst (λ k. Steps k s u refusal) sum (steps_add made (left - made) s t u refusal steps rest)
+steps_left left made s t u refusal most steps rest = search (rules, steps_add)
 
 pub steps_to_refusal : (left made : ℕ) (s t : BenchState) (why : CalculatorRefusal) → made < left → Steps made s t None
     → RefusesStep t.calculator (Some why) → Steps left s t (Some why)
@@ -93,18 +85,10 @@ pub record GoesOn (limit made : ℕ) (s t : BenchState) : Type 0 where
   pub before : NoneBefore limit made s
 
 pub begins : (limit : ℕ) (s : BenchState) → is_idle s.calculator.mode ≡ false → GoesOn limit 0 s s
-begins limit s running = record {
-  steps = (refl, refl);
-  running = running;
-  clear = λ some. absurd (omega (arith, some));
-  before = λ fewer u other below _ _. absurd (omega (arith, below));
-}
+begins limit s running = search rules
 
 pub made_none : (limit : ℕ) (s : BenchState) → MakesSteps limit 0 s s
-made_none limit s = record {
-  steps = (refl, refl);
-  before = λ running fewer u other below _ _. absurd (omega (arith, below));
-}
+made_none limit s = search rules
 
 -- Why a reason that is tested before another does not hold.
 module _ (limit made : ℕ) (t : BenchState) (running : is_idle t.calculator.mode ≡ false) where
@@ -115,9 +99,7 @@ module _ (limit made : ℕ) (t : BenchState) (running : is_idle t.calculator.mod
   module _ (clear : 1 ≤ made → is_set t.breakpoints (location_of t.calculator) ≡ false) where
     not_broken : (other : Stop) → turn_of other < 2 → StopsFor limit made t other → ⊥
     not_broken Idle below holds = let idle : is_idle t.calculator.mode ≡ true = holds in cc
-    not_broken Break below holds =
-        let set : is_set t.breakpoints (location_of t.calculator) ≡ true = holds.1 in
-        let free : is_set t.breakpoints (location_of t.calculator) ≡ false = clear holds.0 in cc
+    not_broken Break below holds = search rules
     not_broken Limit below holds = absurd (omega (arith, below))
     not_broken (Refused why) below holds = absurd (omega (arith, below))
 
@@ -129,21 +111,11 @@ module _ (limit made : ℕ) (t : BenchState) (running : is_idle t.calculator.mod
 
 -- The run ends at its limit, or because a step is refused.
 pub ends_at_limit : (limit made : ℕ) (s t : BenchState) → GoesOn limit made s t → made ≡ limit → Run limit s t made Limit
-ends_at_limit limit made s t on all = record {
-  steps = on.steps;
-  stops = all;
-  first = not_broken limit made t on.running on.clear;
-  least = on.before;
-}
+ends_at_limit limit made s t on all = search (rules, not_broken)
 
 pub ends_refused : (limit made : ℕ) (s t : BenchState) (why : CalculatorRefusal) → GoesOn limit made s t → made < limit
     → RefusesStep t.calculator (Some why) → Run limit s t made (Refused why)
-ends_refused limit made s t why on below refused = record {
-  steps = on.steps;
-  stops = refused;
-  first = not_limited limit made t on.running on.clear (λ same. omega (arith, same, below));
-  least = on.before;
-}
+ends_refused limit made s t why on below refused = search (rules, not_limited)
 
 pub refused_step_is_run : RefusedStepIsRun
 refused_step_is_run s why running refused = ends_refused 1 0 s s why (begins 1 s running) (omega arith) refused
@@ -167,37 +139,11 @@ Ended limit made s t why = EndsFor limit made t why × (is_idle s.calculator.mod
 -- If there is no reason to stop after a step, the run continues; otherwise it ends there.
 on_behind : (limit made : ℕ) (s t : BenchState) → MakesSteps limit made s t → stop_at t ≡ None → is_idle s.calculator.mode ≡ false
     → GoesOn limit made s t
-on_behind limit made s t so_far stop running =
-    let free = stop_none (is_idle t.calculator.mode) (is_set t.breakpoints (location_of t.calculator)) stop in record {
-      steps = so_far.steps;
-      running = free.0;
-      clear = λ some. free.1;
-      before = so_far.before running;
-    }
+on_behind limit made s t so_far stop running = search (rules, stop_none)
 
 stops_behind : (limit made : ℕ) (s t : BenchState) (why : Stop) → MakesSteps limit made s t → 1 ≤ made → stop_at t ≡ Some why
     → Ended limit made s t why
-stops_behind limit made s t why so_far some stop =
-    elim (stop_some (is_idle t.calculator.mode) (is_set t.breakpoints (location_of t.calculator)) why stop) [
-      | inl idle ↦ subst (Ended limit made s t) (sym idle.1) (
-        some,
-        λ running. record {
-          steps = so_far.steps;
-          stops = idle.0;
-          first = λ other under _. absurd (omega (arith, under));
-          least = so_far.before running;
-        },
-      )
-      | inr broken ↦ subst (Ended limit made s t) (sym broken.2) (
-        some,
-        λ running. record {
-          steps = so_far.steps;
-          stops = (some, broken.1);
-          first = not_idle limit made t broken.0;
-          least = so_far.before running;
-        },
-      )
-    ]
+stops_behind limit made s t why so_far some stop = search (rules, stop_some, not_idle)
 
 -- Before the first step no reason is tested.
 at_first : (made : ℕ) (s t : BenchState) → nat_lt 0 made ≡ false → Steps made s t None → t ≡ s
@@ -206,48 +152,29 @@ at_first (suc made) s t none steps = absurd (omega (arith, ltb-false _ _ none))
 
 pub goes_on : (limit made : ℕ) (s t : BenchState) → MakesSteps limit made s t → stop_after (nat_lt 0 made) t ≡ None
     → is_idle s.calculator.mode ≡ false → GoesOn limit made s t
-goes_on limit made s t so_far stop running =
-    elim (nat_lt 0 made) as (λ behind. nat_lt 0 made ≡ behind → stop_after behind t ≡ None → GoesOn limit made s t) [
-      | true ↦ λ some stop. on_behind limit made s t so_far stop running
-      | false ↦ λ none stop. record {
-        steps = so_far.steps;
-        running = subst (λ (at : BenchState). is_idle at.calculator.mode ≡ false) (sym (at_first made s t none so_far.steps)) running;
-        clear = λ some. absurd (omega (arith, some, ltb-false _ _ none));
-        before = so_far.before running;
-      }
-    ] refl stop
+goes_on limit made s t so_far stop running = search (rules, on_behind, at_first)
 
 pub stops : (limit made : ℕ) (s t : BenchState) (why : Stop) → MakesSteps limit made s t → stop_after (nat_lt 0 made) t ≡ Some why
     → Ended limit made s t why
-stops limit made s t why so_far stop =
-    elim (nat_lt 0 made) as (λ behind. nat_lt 0 made ≡ behind → stop_after behind t ≡ Some why → Ended limit made s t why) [
-      | true ↦ λ some stop. stops_behind limit made s t why so_far (ltb-true _ _ some) stop
-      | false ↦ λ none stop. let no : None ≡ Some why = stop in cc
-    ] refl stop
+stops limit made s t why so_far stop = search (rules, stops_behind)
 
 -- The next step is refused.
 pub ends_at_refusal : (limit made : ℕ) (s t : BenchState) (why : CalculatorRefusal) → MakesSteps limit made s t
     → stop_after (nat_lt 0 made) t ≡ None → made < limit → RefusesStep t.calculator (Some why) → Ended limit made s t (Refused why)
-ends_at_refusal limit made s t why so_far stop below refused =
-    ((below, refused), λ running. ends_refused limit made s t why (goes_on limit made s t so_far stop running) below refused)
+ends_at_refusal limit made s t why so_far stop below refused = search (rules, ends_refused, goes_on)
 
 -- As many steps were made as the limit permits.
 pub ends_limited : (limit made : ℕ) (s t : BenchState) → MakesSteps limit made s t → stop_after (nat_lt 0 made) t ≡ None → made ≡ limit
     → is_idle s.calculator.mode ≡ false → Run limit s t made Limit
 ends_limited limit made s t so_far stop all running = ends_at_limit limit made s t (goes_on limit made s t so_far stop running) all
 
-ends_made : (limit : ℕ) (s t : BenchState) → 1 ≤ limit → MakesSteps limit limit s t
-    → Ended limit limit s t (unwrap_or (stop_at t) Limit)
-ends_made limit s t some so_far =
-    elim (stop_at t) as (λ stop. stop_at t ≡ stop → Ended limit limit s t (unwrap_or stop Limit)) [
-      | Some why ↦ λ is. stops_behind limit limit s t why so_far some is
-      | None ↦ λ is. (refl, λ running. ends_at_limit limit limit s t (on_behind limit limit s t so_far is running) refl)
-    ] refl
+ends_made : (limit : ℕ) (s t : BenchState) → 1 ≤ limit → MakesSteps limit limit s t → Ended limit limit s t (unwrap_or (stop_at t) Limit)
+ends_made limit s t some so_far = search (rules, stops_behind, ends_at_limit, on_behind)
 
 -- What follows from why steps ended.
 pub refused_for : (limit made : ℕ) (t : BenchState) (why : Stop) (refusal : CalculatorRefusal) → EndsFor limit made t why
     → why ≡ Refused refusal → (made < limit) × RefusesStep t.calculator (Some refusal)
-refused_for limit made t why refusal ends is = subst (EndsFor limit made t) is ends
+refused_for limit made t why refusal ends is = rw is at ends
 
 pub some_made : (limit made : ℕ) (t : BenchState) (why : Stop) → 1 ≤ limit → EndsFor limit made t why
     → ((refusal : CalculatorRefusal) → why ≡ Refused refusal → ⊥) → 1 ≤ made
@@ -273,8 +200,7 @@ module _ (same_refusal : StepRefusalIsDetermined) (same_step : StepIsDetermined)
   -- If a step is made, there was no reason to stop.
   none_here : (limit made : ℕ) (s t : BenchState) → GoesOn limit made s t → made < limit → RefusesStep t.calculator None
       → (other : Stop) → StopsFor limit made t other → ⊥
-  none_here limit made s t on below accepted (Refused why) holds =
-      let two : None ≡ Some why = same_refusal t.calculator None (Some why) accepted holds in cc
+  none_here limit made s t on below accepted (Refused why) holds = search rules
   none_here limit made s t on below accepted Idle holds = not_broken limit made t on.running on.clear Idle (omega arith) holds
   none_here limit made s t on below accepted Break holds = not_broken limit made t on.running on.clear Break (omega arith) holds
   none_here limit made s t on below accepted Limit holds = omega (arith, holds, below)
@@ -285,10 +211,8 @@ module _ (same_refusal : StepRefusalIsDetermined) (same_step : StepIsDetermined)
       elim (below_or_at fewer made under) [
         | inl less ↦ on.before fewer u other less steps holds
         | inr same ↦
-            let here : t ≡ u =
-            (steps_determined same_refusal same_step made s t u None None on.steps (subst (λ k. Steps k s u None) same steps)).0 in
-            none_here limit made s t on below accepted other
-            (subst (λ (at : BenchState). StopsFor limit made at other) (sym here) (subst (λ k. StopsFor limit k u other) same holds))
+            let here = (steps_determined same_refusal same_step made s t u None None on.steps (rw (← same) steps)).0 in
+            none_here limit made s t on below accepted other (rw (here, ← same) holds)
       ]
 
   -- One more step.
@@ -296,8 +220,8 @@ module _ (same_refusal : StepRefusalIsDetermined) (same_step : StepIsDetermined)
       → RefusesStep t.calculator None → Step t.calculator next.calculator → next ≡ with_calculator next.calculator t
       → MakesSteps limit (made + 1) s next
   made_more limit made s t next so_far stop below accepted step others = record {
-    steps = subst (λ (to : BenchState). Steps (made + 1) s to None) (sym others)
-        (steps_add made 1 s t (with_calculator next.calculator t) None so_far.steps (one_step t next.calculator accepted step));
+    steps =
+        rw others (steps_add made 1 s t (with_calculator next.calculator t) None so_far.steps (one_step t next.calculator accepted step));
     before = λ running. none_more limit made s t (goes_on limit made s t so_far stop running) below accepted;
   }
 
@@ -314,9 +238,7 @@ module _ (same_refusal : StepRefusalIsDetermined) (same_step : StepIsDetermined)
   same_stop limit made t Idle Idle turn p q = refl
   same_stop limit made t Break Break turn p q = refl
   same_stop limit made t Limit Limit turn p q = refl
-  same_stop limit made t (Refused why) (Refused other) turn p q =
-      let same : Some why ≡ Some other = same_refusal t.calculator (Some why) (Some other) p q in
-      let inner : why ≡ other = cc in ap Refused inner
+  same_stop limit made t (Refused why) (Refused other) turn p q = search rules
   same_stop limit made t why other turn p q = absurd (omega (arith, turn))
 
   not_longer : (limit : ℕ) (s t u : BenchState) (made count : ℕ) (why other : Stop) → Run limit s t made why → Run limit s u count other
@@ -325,18 +247,13 @@ module _ (same_refusal : StepRefusalIsDetermined) (same_step : StepIsDetermined)
 
   pub runs_determined : RunsAreDetermined
   runs_determined limit s t u made count why other p q =
-      let least : made < count → ⊥ = not_longer limit s t u made count why other p q in
-      let most : count < made → ⊥ = not_longer limit s u t count made other why q p in
-      let counts : made ≡ count = equal_counts made count least most in
-      let later : Steps made s u None = subst (λ k. Steps k s u None) (sym counts) q.steps in
-      let states : t ≡ u = (steps_determined same_refusal same_step made s t u None None p.steps later).0 in
-      let here : StopsFor limit made t other =
-      subst (λ (at : BenchState). StopsFor limit made at other) (sym states) (subst (λ k. StopsFor limit k u other) (sym counts) q.stops) in
-      let there : StopsFor limit count u why =
-      subst (λ (at : BenchState). StopsFor limit count at why) states (subst (λ k. StopsFor limit k t why) counts p.stops) in
-      let early : turn_of other < turn_of why → ⊥ = λ below. p.first other below here in
-      let late : turn_of why < turn_of other → ⊥ = λ below. q.first why below there in
-      (states, counts, same_stop limit made t why other (equal_counts (turn_of why) (turn_of other) late early) p.stops here)
+      let counts =
+      equal_counts made count (not_longer limit s t u made count why other p q) (not_longer limit s u t count made other why q p) in
+      let states = (steps_determined same_refusal same_step made s t u None None p.steps (rw counts q.steps)).0 in
+      let here : StopsFor limit made t other = rw (states, counts) q.stops in
+      let there : StopsFor limit count u why = rw (← states, ← counts) p.stops in
+      let turns = equal_counts (turn_of why) (turn_of other) (λ below. q.first why below there) (λ below. p.first other below here) in
+      (states, counts, same_stop limit made t why other turns p.stops here)
 
   -- Two runs make one.
   module _ (limit more : ℕ) (s t u : BenchState) (made count : ℕ) (why : Stop)
@@ -348,9 +265,7 @@ module _ (same_refusal : StepRefusalIsDetermined) (same_step : StepIsDetermined)
     onward k x (Refused refusal) holds = holds
 
     no_break : (x : BenchState) → x ≡ t → StopsFor (limit + more) made x Break → ⊥
-    no_break x same holds =
-        one.first Break (omega arith)
-        (holds.0, subst (λ (at : BenchState). is_set at.breakpoints (location_of at.calculator) ≡ true) same holds.1)
+    no_break x same holds = one.first Break (omega arith) (holds.0, rw (← same) holds.1)
 
     back_at_break : (k : ℕ) (x : BenchState) → Steps k t x None → StopsFor (limit + more) (made + k) x Break → StopsFor more k x Break
     back_at_break zero x steps holds = absurd (no_break x steps.0 (omega (arith, holds.0), holds.1))
@@ -373,7 +288,7 @@ module _ (same_refusal : StepRefusalIsDetermined) (same_step : StepIsDetermined)
     later k v other below steps holds =
         let parts = steps_split made k s v steps in
         let same : parts.0 ≡ t = (steps_determined same_refusal same_step made s parts.0 t None None parts.1 one.steps).0 in
-        let rest : Steps k t v None = subst (λ (from : BenchState). Steps k from v None) same parts.2 in
+        let rest : Steps k t v None = rw (← same) parts.2 in
         two.least k v other below rest (back k v other rest holds)
 
     sooner : (fewer : ℕ) (v : BenchState) (other : Stop) → fewer < made + count → Steps fewer s v None
@@ -382,17 +297,12 @@ module _ (same_refusal : StepRefusalIsDetermined) (same_step : StepIsDetermined)
         elim (before_or_from fewer made) [
           | inl less ↦ one.least fewer v other less steps (early fewer v other less holds)
           | inr from ↦
-              later from.0 v other (omega (arith, from.1, below)) (subst (λ k. Steps k s v None) from.1 steps)
-              (subst (λ k. StopsFor (limit + more) k v other) from.1 holds)
+              later from.0 v other (omega (arith, from.1, below)) (rw (← from.1) steps)
+              (rw (← from.1) holds)
         ]
 
     pub two_runs : Run (limit + more) s u (made + count) why
-    two_runs = record {
-      steps = steps_add made count s t u None one.steps two.steps;
-      stops = onward count u why two.stops;
-      first = λ other below holds. two.first other below (back count u other two.steps holds);
-      least = sooner;
-    }
+    two_runs = search (rules, steps_add, onward, back, sooner)
 
   pub runs_added : RunsAddUp
   runs_added limit more s t u made count why one two = two_runs limit more s t u made count why one two

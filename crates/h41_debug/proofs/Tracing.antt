@@ -1,5 +1,5 @@
 -- Traces: every next step has exactly one description; a trace makes its steps, and steps have a trace.
-use Rattle.std.proofs.Common.{◌≡◌, ℕ, zero, suc, ◌++◌, Bool, true, false, List, [], Option, Some, None, Result, refl, sym, ap, subst, ◌∙◌}
+use Rattle.std.proofs.Common.{◌≡◌, ℕ, zero, suc, ◌++◌, Bool, true, false, List, [], Option, Some, None, Result, refl, sym, ap, ◌∙◌, rules}
 use Rattle.std.specs.Prelude.{MatchBool, MatchOption, codes}
 use Rattle.h41_breakpoints.specs.declared.location.Location.{Location}
 use Rattle.h41_breakpoints.specs.declared.location.Location.TheVariants.{Line, Word}
@@ -52,8 +52,7 @@ module _ (each : EachIsRead) where
 
   pub step_told : StatesAreDescribed
   step_told s =
-      let next = told_at (location_of s.calculator) s.calculator in
-      (position_text s ++ codes " " ++ next.0, (next.0, next.1, refl))
+      let next = told_at (location_of s.calculator) s.calculator in (position_text s ++ codes " " ++ next.0, (next.0, next.1, refl))
 
   -- Steps have a trace.
   abbrev Told : ℕ → Type 0
@@ -64,16 +63,13 @@ module _ (each : EachIsRead) where
       → MatchOption why (StepsInto (λ next. Steps count next t refusal) s) (λ why. (t ≡ s) × (refusal ≡ Some why))
       → (rest : List ℕ) × MatchOption why (StepsInto (λ next. Traces count next t rest refusal) s)
       (λ why. (t ≡ s) × (rest ≡ []) × (refusal ≡ Some why))
-  told_after count told None s t refusal p =
-      let more = told (with_calculator p.0 s) t refusal p.2 in
-      (more.0, (p.0, p.1, more.1))
+  told_after count told None s t refusal p = search rules
   told_after count told (Some why) s t refusal p = ([], (p.0, refl, p.1))
 
   told_from : (count : ℕ) → Told count → (s t : BenchState) (text : List ℕ) (refusal : Option CalculatorRefusal) → TellsStep s text
       → Steps (suc count) s t refusal → (rest : List ℕ) × Traces (suc count) s t (traced_line text ++ rest) refusal
   told_from count told s t text refusal tells p =
-      let more = told_after count told p.0 s t refusal p.2 in
-      (more.0, (text, tells, more.0, refl, p.0, p.1, more.1))
+      let more = told_after count told p.0 s t refusal p.2 in (more.0, (text, tells, more.0, refl, p.0, p.1, more.1))
 
   all_told : (count : ℕ) → Told count
   all_told zero s t refusal p = ([], (p.0, refl, p.1))
@@ -101,9 +97,7 @@ module _ (once : IsReadOnce) where
   same_at (Line position) s text other p q = same_told s.nut.pages s.nut.ram position (is_sound s.nut.ram) text other p q
 
   same_step_told : (s : BenchState) (text other : List ℕ) → TellsStep s text → TellsStep s other → text ≡ other
-  same_step_told s text other p q =
-      p.2 ∙ ap (λ (next : List ℕ). position_text s ++ codes " " ++ next) (same_at (location_of s.calculator) s.calculator p.0 q.0 p.1 q.1)
-      ∙ sym q.2
+  same_step_told s text other p q = search (rules, same_at)
 
   -- Steps have only one trace.
   module _ (same_refusal : StepRefusalIsDetermined) (same_step : StepIsDetermined) where
@@ -119,16 +113,14 @@ module _ (once : IsReadOnce) where
     same_more : (count : ℕ) → Same count
         → (why : Option CalculatorRefusal) (s t u : BenchState) (rest more : List ℕ) (a b : Option CalculatorRefusal)
         → After count s t rest a why → After count s u more b why → (t ≡ u) × (rest ≡ more) × (a ≡ b)
-    same_more count same None s t u rest more a b p q =
-        let next : p.0 ≡ q.0 = same_step s.calculator p.0 q.0 p.1 q.1 in
-        same (with_calculator q.0 s) t u rest more a b (subst (λ from. Traces count (with_calculator from s) t rest a) next p.2) q.2
+    same_more count same None s t u rest more a b p q = search rules
     same_more count same (Some why) s t u rest more a b p q = (p.0 ∙ sym q.0, p.1 ∙ sym q.1, p.2 ∙ sym q.2)
 
     pub traces_determined : TracesAreDetermined
     traces_determined zero s t u lines text a b p q = (p.0 ∙ sym q.0, p.1 ∙ sym q.1, p.2 ∙ sym q.2)
     traces_determined (suc count) s t u lines text a b p q =
         let why : p.4 ≡ q.4 = same_refusal s.calculator p.4 q.4 p.5 q.5 in
-        let more = same_more count (traces_determined count) q.4 s t u p.2 q.2 a b (subst (After count s t p.2 a) why p.6) q.6 in
+        let more = same_more count (traces_determined count) q.4 s t u p.2 q.2 a b (rw (← why) p.6) q.6 in
         let first : p.0 ≡ q.0 = same_step_told s p.0 q.0 p.1 q.1 in (
           more.0,
           p.3 ∙ ap (λ (line : List ℕ). traced_line line ++ p.2) first ∙ ap (λ (rest : List ℕ). traced_line q.0 ++ rest) more.1 ∙ sym q.3,

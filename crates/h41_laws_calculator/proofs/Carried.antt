@@ -31,12 +31,12 @@ use Rattle.h41_rows.specs.Rows as rows
 use Rattle.h41_rows.specs.Values.{Value}
 use Rattle.h41_rows.specs.declared.fault.LineFault.{LineFault}
 use Rattle.h41_rows.specs.declared.fault.LineFault.TheVariants.{AlphaData, Nonexistent}
-use Rattle.h41_laws_words.proofs.Answering.{Has}
+use Rattle.h41_laws_words.proofs.Answering.{Has, has_one}
 use Rattle.h41_laws_calculator.specs.ProgramAnswers.{MemoryHasOneAnswer, PositionHasOne, PositionHasOneEach}
 use Rattle.h41_laws_calculator.specs.LineValues.{ValueHasOneRegister}
 use Rattle.h41_laws_calculator.specs.LineEnds.{LineHasOneEnd, NameHasOneFunction}
 use Rattle.h41_laws_calculator.specs.LineOutcomes.{StepHasOneOutcome, TypedHasOneOutcome}
-use Rattle.h41_laws_calculator.proofs.Chosen.{alone, either}
+use Rattle.h41_laws_calculator.proofs.Chosen.{alone, either, one_there, through}
 use Rattle.h41_laws_calculator.proofs.Leads.{NextOrNone, goes}
 use Rattle.h41_pages.specs.PageMap.{PageMap}
 
@@ -65,17 +65,13 @@ module _ (values : ValueHasOneRegister) (next_or_none : NextOrNone) (onward : Li
       → Has (AppliesWith pages how row named machine result)
   applies_with pages how row named machine (Err fault) = alone (Ok (left_by_fault how machine fault))
   applies_with pages how row named machine (Ok result) =
-      let to = goes next_or_none starts locals names pages how row.goes machine.memory named machine.focal.position machine.focal.returns in
-      let left =
-      ends how machine (with_row row named result machine) (answer_of_showing machine.memory named row.shows row.ends) to.answer in
-      record { answer = left.answer; right = (to.answer, to.right, left.right) }
+      through (goes next_or_none starts locals names pages how row.goes machine.memory named machine.focal.position machine.focal.returns)
+      (λ to _. ends how machine (with_row row named result machine) (answer_of_showing machine.memory named row.shows row.ends) to)
 
   applies : (pages : PageMap) (how : Manner) (row : rows.LineRow) (named : ℕ) (machine : Machine)
       → Has (Applies pages how row named machine)
   applies pages how row named machine =
-      let result = works machine.memory named row in
-      let left = applies_with pages how row named machine result.answer in
-      record { answer = left.answer; right = (result.answer, result.right, left.right) }
+      through (works machine.memory named row) (λ result _. applies_with pages how row named machine result)
 
   applies_to : (pages : PageMap) (how : Manner) (line : Line) (machine : Machine) (meant : Result Meant LineFault)
       → Has (AppliesTo pages how line machine meant)
@@ -113,12 +109,9 @@ module _ (values : ValueHasOneRegister) (next_or_none : NextOrNone) (onward : Li
       → ((standing : Result (Line × Position) FocalRefusal) → Has (does standing)) → (machine : Machine)
       → Has (λ done. (standing : Result (Line × Position) FocalRefusal) × Stands pages machine standing × does standing done)
   by_standing pages does each machine =
-      let standing = stands_at pages (is_sound machine.memory) machine.memory machine.focal.position refl in
-      let done = each standing.answer in
-      record { answer = done.answer; right = (standing.answer, standing.right, done.right) }
+      through (stands_at pages (is_sound machine.memory) machine.memory machine.focal.position refl) (λ standing _. each standing)
 
-  steps_as : (pages : PageMap) (machine : Machine) (standing : Result (Line × Position) FocalRefusal)
-      → Has (StepsAs pages machine standing)
+  steps_as : (pages : PageMap) (machine : Machine) (standing : Result (Line × Position) FocalRefusal) → Has (StepsAs pages machine standing)
   steps_as pages machine (Ok (line, next)) = takes pages (Stepped next) line machine
   steps_as pages machine (Err refusal) = alone (Err refusal)
 
@@ -126,22 +119,10 @@ module _ (values : ValueHasOneRegister) (next_or_none : NextOrNone) (onward : Li
   steps pages machine = by_standing pages (StepsAs pages machine) (steps_as pages machine) machine
 
   pub one_step : StepIsDetermined → StepHasOneOutcome
-  one_step determined pages machine =
-      let found = steps pages machine in
-      record {
-        answer = found.answer;
-        right = found.right;
-        only = λ other again. determined pages machine other found.answer again found.right;
-      }
+  one_step determined pages machine = has_one (steps pages machine) (determined pages machine)
 
   pub one_typed : TypedIsDetermined → TypedHasOneOutcome
-  one_typed determined pages line machine =
-      let found = types pages line machine in
-      record {
-        answer = found.answer;
-        right = found.right;
-        only = λ other again. determined pages line machine other found.answer again found.right;
-      }
+  one_typed determined pages line machine = has_one (types pages line machine) (determined pages line machine)
 
   -- What a line calls outside program memory, given that a name names one function, or none.
   module _ (functions : NameHasOneFunction) where
@@ -153,10 +134,7 @@ module _ (values : ValueHasOneRegister) (next_or_none : NextOrNone) (onward : Li
     calls_name : (pages : PageMap) (how : Manner) (numbers : Option (ℕ × ℕ)) (name : List ℕ) (machine : Machine)
         → Has (CallsName pages how numbers name machine)
     calls_name pages how (Some numbers) name machine = alone _
-    calls_name pages how None name machine =
-        let function = functions name in
-        let carried = carries_named pages how function.answer machine in
-        record { answer = carried.answer; right = (function.answer, function.right, carried.right) }
+    calls_name pages how None name machine = through (one_there (functions name)) (λ function _. carries_named pages how function machine)
 
     goes_on : (pages : PageMap) (how : Manner) (machine : Machine) (left : Left) (answer : Answer)
         → Has (GoesOn pages how machine left answer)
@@ -170,10 +148,7 @@ module _ (values : ValueHasOneRegister) (next_or_none : NextOrNone) (onward : Li
     goes_on_from pages how machine (Err refusal) = alone (Err refusal)
 
     carries_whole : (pages : PageMap) (how : Manner) (line : Line) (machine : Machine) → Has (CarriesWhole pages how line machine)
-    carries_whole pages how line machine =
-        let own = takes pages how line machine in
-        let carried = goes_on_from pages how machine own.answer in
-        record { answer = carried.answer; right = (own.answer, own.right, carried.right) }
+    carries_whole pages how line machine = through (takes pages how line machine) (λ own _. goes_on_from pages how machine own)
 
     carries_standing : (pages : PageMap) (machine : Machine) (standing : Result (Line × Position) FocalRefusal)
         → Has (CarriesStanding pages machine standing)
@@ -181,17 +156,10 @@ module _ (values : ValueHasOneRegister) (next_or_none : NextOrNone) (onward : Li
     carries_standing pages machine (Err refusal) = alone (Err refusal)
 
     carries_line : (source : LineSource) (pages : PageMap) (machine : Machine) → Has (CarriesLine source pages machine)
-    carries_line sources.Program pages machine =
-        by_standing pages (CarriesStanding pages machine) (carries_standing pages machine) machine
+    carries_line sources.Program pages machine = by_standing pages (CarriesStanding pages machine) (carries_standing pages machine) machine
     carries_line (sources.Keys line) pages machine =
         where_true (is_sound machine.memory) (CarriesWhole pages Typed line machine) (Err MemoryLost)
         (carries_whole pages Typed line machine)
 
     pub one_end : LineIsDetermined → LineHasOneEnd
-    one_end determined source pages machine =
-        let found = carries_line source pages machine in
-        record {
-          answer = found.answer;
-          right = found.right;
-          only = λ other again. determined source pages machine other found.answer again found.right;
-        }
+    one_end determined source pages machine = has_one (carries_line source pages machine) (determined source pages machine)

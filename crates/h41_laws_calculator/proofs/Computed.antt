@@ -1,6 +1,7 @@
 -- What lines compute has an answer, and the answer has a register.
+use Rattle.h41_laws_calculator.proofs.Chosen.{one_there, through}
 use Rattle.std.proofs.Common.{◌≡◌, ℕ, ◌-◌, ◌*◌, ◌<◌, List, Option, Some, None, Result, Ok, Err, Bool, true, false}
-use Rattle.std.proofs.Common.{MatchBool, IsOkAnd, refl, sym, ◌∙◌, subst, arith}
+use Rattle.std.proofs.Common.{MatchBool, IsOkAnd, refl, sym, ◌∙◌, arith}
 use Rattle.std.specs.Prelude.{ℤ, pos, neg_ℤ, ◌+ℤ◌, ◌-ℤ◌, ◌*ℤ◌, unsigned_abs}
 use Rattle.std.specs.Option.{option_map_or}
 use Rattle.h41_decimal.specs.Holding.{holding_of, worth}
@@ -36,7 +37,7 @@ use Rattle.h41_laws_words.specs.DecimalAnswers.{DecimalHasOneRegister, FractionH
 use Rattle.h41_laws_words.specs.DecimalAnswers.{NumberHasOneFraction, NumberHasOneInteger, NumberHasOneOfSteps, QuotientHasOneNearest}
 use Rattle.h41_laws_words.specs.DecimalAnswers.{RegisterHoldsDecimal, RootHasOneNearest}
 use Rattle.h41_laws_words.specs.HasOne.{HasOne}
-use Rattle.h41_laws_words.proofs.Answering.{Has}
+use Rattle.h41_laws_words.proofs.Answering.{Has, has_one}
 use Rattle.h41_laws_words.proofs.Rounding.{ten_of, units-ten_of}
 use Rattle.h41_laws_calculator.specs.LineValues.{NumberLineHasOneNumber, ValueHasOneAnswer, ValueHasOneRegister}
 
@@ -72,18 +73,12 @@ module _ (nearest : FractionHasOneNearest) (root : RootHasOneNearest) (quotient 
   is_of_one ones.Negative memory named a = some _ (nearest (neg_ℤ (amount_in memory named a)) 1 (omega arith))
   is_of_one ones.AbsoluteValue memory named a = some _ (nearest (pos (unsigned_abs (amount_in memory named a))) 1 (omega arith))
   is_of_one ones.IntegerPart memory named a =
-      let part = integer (amount_in memory named a) in
-      let found = nearest part.answer 1 (omega arith) in
-      record { answer = found.answer; right = (part.answer, part.right, found.right) }
+      through (one_there (integer (amount_in memory named a))) (λ part _. one_there (nearest part 1 (omega arith)))
   is_of_one ones.Fraction memory named a =
-      let rest = fraction (amount_in memory named a) in
-      let found = nearest rest.answer 1 (omega arith) in
-      record { answer = found.answer; right = (rest.answer, rest.right, found.right) }
+      through (one_there (fraction (amount_in memory named a))) (λ rest _. one_there (nearest rest 1 (omega arith)))
   is_of_one ones.Displayed memory named a =
-      let number = decimal_in_place memory named a in
       let places = places_of (format_of memory) in
-      let found = steps (step_of places number.answer) (units number.answer) (step_pos places number.answer) in
-      record { answer = found.answer; right = (number.answer, number.right, found.right) }
+      through (decimal_in_place memory named a) (λ x _. one_there (steps (step_of places x) (units x) (step_pos places x)))
   is_of_one ones.Unit memory named a = some _ (nearest (unit_of (amount_in memory named a)) 1 (omega arith))
   is_of_one ones.CountedUp memory named a = some _ (nearest (number_after Up (amount_in memory named a)) 1 (omega arith))
   is_of_one ones.CountedDown memory named a = some _ (nearest (number_after Down (amount_in memory named a)) 1 (omega arith))
@@ -92,8 +87,7 @@ module _ (nearest : FractionHasOneNearest) (root : RootHasOneNearest) (quotient 
       → Has (IsOfTwo value (amount_in memory named a) (amount_in memory named b))
   is_of_two twos.Sum memory named a b = some _ (nearest (amount_in memory named a +ℤ amount_in memory named b) 1 (omega arith))
   is_of_two twos.Difference memory named a b = some _ (nearest (amount_in memory named a -ℤ amount_in memory named b) 1 (omega arith))
-  is_of_two twos.Product memory named a b =
-      some _ (nearest (amount_in memory named a *ℤ amount_in memory named b) one (ten_pow_pos 108))
+  is_of_two twos.Product memory named a b = some _ (nearest (amount_in memory named a *ℤ amount_in memory named b) one (ten_pow_pos 108))
   is_of_two twos.Quotient memory named a b = some _ (quotient (amount_in memory named a) (amount_in memory named b))
   is_of_two twos.Remainder memory named a b =
       let y = decimal_in_place memory named a in
@@ -105,9 +99,7 @@ module _ (nearest : FractionHasOneNearest) (root : RootHasOneNearest) (quotient 
 
   is_value : (value : Value) (memory : RegisterMap) (named : ℕ) → Has (IsValue value memory named)
   is_value (Given number) memory named = some _ (nearest number 1 (omega arith))
-  is_value (Written characters) memory named =
-      let found = line characters in
-      record { answer = Ok found.answer; right = found.right }
+  is_value (Written characters) memory named = let found = line characters in record { answer = Ok found.answer; right = found.right }
   is_value (OfOne ones.Unit a) memory named =
       some _ (nearest (option_map_or unit_of (worth (holding_of (register_in memory named a))) (pos 0)) 1 (omega arith))
   is_value (OfOne value a) memory named = is_of_one value memory named a
@@ -117,7 +109,7 @@ module _ (nearest : FractionHasOneNearest) (root : RootHasOneNearest) (quotient 
   of_number : (number : Ten) (n : ℤ) → units number ≡ n → Has (λ (result : Result (List ℕ) LineFault). IsOkAnd result (IsRegisterOf n))
   of_number number n is =
       let found = register number in
-      let held : HoldsNumber n found.answer = subst (λ (m : ℤ). HoldsNumber m found.answer) is found.right in
+      let held : HoldsNumber n found.answer = rw (← is) found.right in
       record { answer = Ok found.answer; right = record { valid = held.valid; holds = held.holds } }
 
   out_of_range : (sign : Sign) (ignored : Bool) → Has (Kept sign ignored (Err Range))
@@ -136,13 +128,8 @@ module _ (nearest : FractionHasOneNearest) (root : RootHasOneNearest) (quotient 
   one_register determined value memory named =
       let found = is_value value memory named in
       let result = kept (sign_of_value value memory named) (flag_of memory range_ignore) found.answer in
-      let computes : Computes value memory named result.answer =
-      record { answer = found.answer; nearest = found.right; kept = result.right } in
-      record {
-        answer = result.answer;
-        right = computes;
-        only = λ other right. determined value memory named other result.answer right computes;
-      }
+      has_one (record { answer = result.answer; right = record { answer = found.answer; nearest = found.right; kept = result.right } })
+      (determined value memory named)
 
 either : {A : Type 0} (t : Bool) (Then : A → Type 0) (other : A) → HasOne Then
     → HasOne (λ answer. MatchBool t (Then answer) (answer ≡ other))

@@ -1,5 +1,5 @@
 -- Lines that are inserted, or replace others.
-use Rattle.std.proofs.Common.{◌≡◌, ℕ, true, List, Option, Some, None, Result, Ok, Err, MatchBool, inl, inr, refl, sym}
+use Rattle.std.proofs.Common.{◌≡◌, ℕ, true, List, Option, Some, None, Result, Ok, Err, MatchBool, inl, inr, refl, sym, rules}
 use Rattle.h41_codes.specs.ByteLaws.{ByteRoundTrip, OneLine}
 use Rattle.h41_codes.specs.declared.line.Line.{Line}
 use Rattle.h41_editor.specs.Changes.{Changed, Inserts, InsertsAt, InsertsBefore, InsertsBy, Replaces, ReplacesAt, ShowsNew, showing_line}
@@ -26,45 +26,29 @@ use Rattle.h41_program.specs.declared.refusal.ProgramRefusal.{ProgramRefusal}
 use Rattle.h41_program.specs.declared.refusal.ProgramRefusal.TheVariants.{BrokenProgram}
 use Rattle.h41_program.specs.private.EditSteps.{Counts}
 use Rattle.h41_ram.specs.RegisterMap.{RegisterMap, is_sound}
-use Rattle.h41_laws_words.proofs.Answering.{Has}
+use Rattle.h41_laws_words.proofs.Answering.{Has, has_one}
 use Rattle.h41_laws_calculator.specs.ProgramAnswers.{PositionHasOne}
 use Rattle.h41_laws_calculator.specs.ProgramChanges.{EditHasOneOutcome}
 use Rattle.h41_laws_calculator.specs.ProgramMode.{ChangeHasOneOutcome}
-use Rattle.h41_laws_calculator.proofs.Chosen.{alone, either}
+use Rattle.h41_laws_calculator.proofs.Chosen.{alone, either, one_there, through}
 use Rattle.h41_laws_calculator.proofs.Moved.{next_in, numbered}
 
 pub one_change : (Makes : Line → Machine → Result Machine ProgramRefusal → Type 0) → ChangeIsDetermined Makes
     → ((line : Line) (machine : Machine) → IsInner line → is_sound machine.memory ≡ true → Has (Makes line machine))
     → ChangeHasOneOutcome Makes
-one_change Makes determined some line machine inner sound =
-    let found = some line machine inner sound in
-    record {
-      answer = found.answer;
-      right = found.right;
-      only = λ other again. determined line machine other found.answer again found.right;
-    }
+one_change Makes determined some line machine inner sound = has_one (some line machine inner sound) (determined line machine)
 
 put_before : (line : Line) → IsInner line → PutsAt line (with_inserted line)
-put_before line inner = record {
-  begins = inserted_begins line;
-  keeps = inserted_keeps line;
-  inner = λ place. inserted_inner line place inner;
-}
+put_before line inner = search (rules, inserted_begins, inserted_keeps, inserted_inner)
 
 put_instead : (line : Line) → IsInner line → PutsAt line (with_replaced line)
-put_instead line inner = record {
-  begins = replaced_begins line;
-  keeps = replaced_keeps line;
-  inner = λ place. replaced_inner line place inner;
-}
+put_instead line inner = search (rules, replaced_begins, replaced_keeps, replaced_inner)
 
 module _ (again : ByteRoundTrip) (one : OneLine) (lists : OneList) (edits : EditHasOneOutcome) where
   -- How many lines are before the line of a position.
   counts : (memory : RegisterMap) (at : ℕ) (first : ListedLine) → FirstFrom (program_bytes memory) (final_position memory) at first
       → Counts memory at (count_before first.position (lists memory 0).lines)
-  counts memory at first stands =
-      let all = lists memory 0 in
-      record { first = first; lines = all.lines; stands = stands; from = all.from; is = refl }
+  counts memory at first stands = search rules
 
   module _ (line : Line) (change : ℕ → ListedLine → List Line) (puts : PutsAt line change) where
     shows_new : (machine : Machine) (at : ℕ) (changed : Changed) → is_sound machine.memory ≡ true
@@ -87,10 +71,8 @@ module _ (again : ByteRoundTrip) (one : OneLine) (lists : OneList) (edits : Edit
   replaces_at : (line : Line) (machine : Machine) (position : Position) → IsInner line → is_sound machine.memory ≡ true
       → Has (ReplacesAt line machine position)
   replaces_at line machine (Memory at) inner sound =
-      let changed = edits machine.memory (with_replaced line) at in
-      let shown =
-      shows_new line (with_replaced line) (put_instead line inner) machine at changed.answer sound changed.right in
-      record { answer = shown.answer; right = (changed.answer, changed.right, shown.right) }
+      through (one_there (edits machine.memory (with_replaced line) at))
+      (λ changed is. shows_new line (with_replaced line) (put_instead line inner) machine at changed sound is)
   replaces_at line machine (Page address) inner sound = alone (Err BrokenProgram)
 
   pub replaces : (line : Line) (machine : Machine) → IsInner line → is_sound machine.memory ≡ true → Has (Replaces line machine)
@@ -99,10 +81,8 @@ module _ (again : ByteRoundTrip) (one : OneLine) (lists : OneList) (edits : Edit
   inserts_before : (line : Line) (machine : Machine) (position : Position) → IsInner line → is_sound machine.memory ≡ true
       → Has (InsertsBefore line machine position)
   inserts_before line machine (Memory before) inner sound =
-      let changed = edits machine.memory (with_inserted line) before in
-      let shown =
-      shows_new line (with_inserted line) (put_before line inner) machine before changed.answer sound changed.right in
-      record { answer = shown.answer; right = (changed.answer, changed.right, shown.right) }
+      through (one_there (edits machine.memory (with_inserted line) before))
+      (λ changed is. shows_new line (with_inserted line) (put_before line inner) machine before changed sound is)
   inserts_before line machine (Page address) inner sound = alone (Err BrokenProgram)
 
   module _ (lines : PositionHasOne LineAt) (numbers : PositionHasOne NumberAt) (starts : PositionHasOne StartOf)
@@ -111,8 +91,7 @@ module _ (again : ByteRoundTrip) (one : OneLine) (lists : OneList) (edits : Edit
     Line_at pages machine = (first : PlacedLine) × LineAt pages machine.memory machine.focal.position (Ok first)
 
     line_numbered : (pages : PageMap) (machine : Machine) (of : NumberedLine) (first : Result PlacedLine ProgramRefusal)
-        → LineAt pages machine.memory machine.focal.position first → Numbers pages machine.memory first (Some of)
-        → Line_at pages machine
+        → LineAt pages machine.memory machine.focal.position first → Numbers pages machine.memory first (Some of) → Line_at pages machine
     line_numbered pages machine of (Ok first) stands numbered = (first, stands)
     line_numbered pages machine of (Err refusal) stands none =
         absurd (let never : ◌≡◌ {A = Option NumberedLine} (Some of) None = none in cc)
@@ -135,14 +114,12 @@ module _ (again : ByteRoundTrip) (one : OneLine) (lists : OneList) (edits : Edit
         → is_sound machine.memory ≡ true → HasNumbered pages machine.memory machine.focal.position of
         → Has (InsertsBy pages line machine of)
     inserts_by pages line machine (Some of) inner sound has =
-        let before = inserts_at pages machine of.placed (line_numbered pages machine of has.0 has.1 has.2) in
-        let made = inserts_before line machine before.answer inner sound in
-        record { answer = made.answer; right = (before.answer, before.right, made.right) }
+        through (inserts_at pages machine of.placed (line_numbered pages machine of has.0 has.1 has.2))
+        (λ before _. inserts_before line machine before inner sound)
     inserts_by pages line machine None inner sound has = alone (Err BrokenProgram)
 
     pub inserts : (pages : PageMap) (line : Line) (machine : Machine) → IsInner line → is_sound machine.memory ≡ true
         → Has (Inserts pages line machine)
     inserts pages line machine inner sound =
-        let found = numbered lines numbers pages machine.memory machine.focal.position in
-        let made = inserts_by pages line machine found.answer inner sound found.right in
-        record { answer = made.answer; right = (found.answer, found.right, made.right) }
+        through (numbered lines numbers pages machine.memory machine.focal.position)
+        (λ found is. inserts_by pages line machine found inner sound is)

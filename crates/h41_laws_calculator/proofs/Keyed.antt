@@ -1,5 +1,5 @@
 -- The result of a key.
-use Rattle.std.proofs.Common.{◌≡◌, ℕ, Bool, true, false, List, Option, Some, None, Result, Ok, Err, MatchOption, refl}
+use Rattle.std.proofs.Common.{◌≡◌, ℕ, Bool, true, false, List, Option, Some, None, Result, Ok, Err, MatchOption, refl, rules}
 use Rattle.std.specs.Prelude.{◌&&◌, ◌||◌, not, IfSome, IsOkAnd}
 use Rattle.std.specs.Bool.{then_some}
 use Rattle.h41_codes.specs.declared.characters.Character.{Character}
@@ -35,9 +35,8 @@ use Rattle.h41_program.specs.LastProgram.{open_in}
 use Rattle.h41_program.specs.ProgramLaws.{IsInner}
 use Rattle.h41_program.specs.Searches.{named_in, position_of}
 use Rattle.h41_program.specs.declared.refusal.ProgramRefusal.{ProgramRefusal}
-use Rattle.h41_ram.specs.NamedFlags.{range_ignore}
-use Rattle.h41_ram.specs.RegisterMap.{RegisterMap, flag_of, is_sound}
-use Rattle.h41_rows.specs.Values.{Computes, Kept, Written, sign_of_value}
+use Rattle.h41_ram.specs.RegisterMap.{RegisterMap, is_sound}
+use Rattle.h41_rows.specs.Values.{Computes, Kept, Written}
 use Rattle.h41_rows.specs.declared.fault.LineFault.{LineFault}
 use Rattle.h41_focal.specs.LineStep.{Left, left_done}
 use Rattle.h41_xrom.specs.Calculator.{CalculatorState, is_idle, machine_of}
@@ -60,8 +59,8 @@ use Rattle.h41_laws_calculator.specs.LineValues.{ValueHasOneRegister}
 use Rattle.h41_laws_calculator.specs.Keys.{KeyHasOneOutcome, KeyLeaves, PressStoresInner, StoresInner}
 use Rattle.h41_laws_calculator.specs.LineEnds.{LineHasOneEnd, NameHasOneFunction}
 use Rattle.h41_laws_calculator.specs.ProgramMode.{ChangeHasOneOutcome, MoveHasOneOutcome}
-use Rattle.h41_laws_calculator.proofs.Chosen.{alone, either, one_there}
-use Rattle.h41_laws_calculator.proofs.Loading.{becomes, becomes-right, same_left}
+use Rattle.h41_laws_calculator.proofs.Chosen.{alone, either, one_pair, one_there, made_of}
+use Rattle.h41_laws_calculator.proofs.Loading.{becomes, becomes-right}
 use Rattle.h41_laws_calculator.proofs.Numbered.{are_numbers}
 
 -- The result of an action.
@@ -77,36 +76,27 @@ never_fault : (characters : List Character) (sign : Sign) (ignored : Bool) (faul
 never_fault characters sign ignored fault (Ok number) is kept = kept
 never_fault characters sign ignored fault (Err why) is kept = is
 
-abbrev Register : List Character → RegisterMap → Type 0
-Register text memory = (register : List ℕ) × Computes (Written text) memory 0 (Ok register)
-
 register_of : (text : List Character) (memory : RegisterMap) (result : Result (List ℕ) LineFault)
-    → Computes (Written text) memory 0 result → Register text memory
-register_of text memory (Ok register) computes = (register, computes)
-register_of text memory (Err fault) computes =
-    absurd (never_fault text (sign_of_value (Written text) memory 0) (flag_of memory range_ignore) fault computes.answer
-    computes.nearest computes.kept)
+    → Computes (Written text) memory 0 result → Has (λ register. Computes (Written text) memory 0 (Ok register))
+register_of text memory (Ok register) computes = record { answer = register; right = computes }
+register_of text memory (Err fault) computes = search (rules, never_fault)
 
 module _ (ends : LineHasOneEnd) (names : NameHasOneFunction) (labels : MemoryHasOneAnswer (Option ℕ)) (values : ValueHasOneRegister)
     (next : (pages : PageMap) → MoveHasOneOutcome (ShowsNext pages)) (before : (pages : PageMap) → MoveHasOneOutcome (ShowsBefore pages))
     (end : MoveHasOneOutcome GoesToEnd) (deletion : (pages : PageMap) → MoveHasOneOutcome (Deletes pages))
     (insertion : (pages : PageMap) → ChangeHasOneOutcome (Inserts pages)) (replacement : ChangeHasOneOutcome Replaces) where
   carries : (source : LineSource) (pages : PageMap) (machine : Machine) → Has (Carries source pages machine)
-  carries source pages machine =
-      let ended = ends source pages machine in
-      record { answer = line_effect ended.answer; right = (ended.answer, ended.right, refl) }
+  carries source pages machine = made_of line_effect (one_there (ends source pages machine))
 
   begins : (text : List Character) (machine : Machine) → Has (BeginsNumber text machine)
   begins text machine =
       let found = values (Written text) machine.memory 0 in
-      let of = register_of text machine.memory found.answer found.right in
-      record { answer = Ok (left_done (with_number_started machine of.0)); right = (of.0, of.1, refl) }
+      made_of (λ of. Ok (left_done (with_number_started machine of))) (register_of text machine.memory found.answer found.right)
 
   changes : (text : List Character) (machine : Machine) → Has (ChangesNumber text machine)
   changes text machine =
       let found = values (Written text) machine.memory 0 in
-      let of = register_of text machine.memory found.answer found.right in
-      record { answer = Ok (left_done (with_number_changed machine of.0)); right = (of.0, of.1, refl) }
+      made_of (λ of. Ok (left_done (with_number_changed machine of))) (register_of text machine.memory found.answer found.right)
 
   -- The line that is stored, which is one that programs can contain.
   abbrev Stored : (Line → Type 0) → Type 0
@@ -128,8 +118,7 @@ module _ (ends : LineHasOneEnd) (names : NameHasOneFunction) (labels : MemoryHas
   stored_name : (pages : PageMap) (line : Line) (name : List ℕ) (label : Option ℕ) → IsInner line
       → Stored (StoredName pages line name label)
   stored_name pages line name (Some position) inner = (line, refl, inner)
-  stored_name pages line name None inner =
-      stored_elsewhere line name (function_of_name pages name) inner (are_numbers pages name)
+  stored_name pages line name None inner = stored_elsewhere line name (function_of_name pages name) inner (are_numbers pages name)
 
   stored_as : (pages : PageMap) (memory : RegisterMap) (line : Line) → IsInner line → Stored (IsStoredAs pages memory line)
   stored_as pages memory (lines.Named ExecuteName name) inner =
@@ -151,8 +140,7 @@ module _ (ends : LineHasOneEnd) (names : NameHasOneFunction) (labels : MemoryHas
   acts pages program_mode actions.Step machine inner sound =
       either program_mode (Edits (ShowsNext pages) machine) (Carries sources.Program pages machine)
       (edits (ShowsNext pages) machine (one_there (next pages machine))) (carries sources.Program pages machine)
-  acts pages program_mode actions.StepBack machine inner sound =
-      edits (ShowsBefore pages) machine (one_there (before pages machine))
+  acts pages program_mode actions.StepBack machine inner sound = edits (ShowsBefore pages) machine (one_there (before pages machine))
   acts pages program_mode actions.GoToEnd machine inner sound = edits GoesToEnd machine (one_there (end machine))
   acts pages program_mode (actions.CarryOut line) machine inner sound = carries (sources.Keys line) pages machine
   acts pages program_mode (actions.Insert line) machine inner sound = stores pages line machine inner sound
@@ -232,9 +220,7 @@ module _ (ends : LineHasOneEnd) (names : NameHasOneFunction) (labels : MemoryHas
         }
 
     flagged : (s : CalculatorState) → Has (HasFlags s)
-    flagged s =
-        let place = placed s.nut.pages (machine_of s) s.focal.position in
-        record { answer = flags_at place.answer s; right = (place.answer, place.right, refl) }
+    flagged s = made_of (λ found. flags_at found s) (placed s.nut.pages (machine_of s) s.focal.position)
 
     pub one_key : KeyIsDetermined → KeyHasOneOutcome
     one_key determined key s inner =
@@ -243,21 +229,11 @@ module _ (ends : LineHasOneEnd) (names : NameHasOneFunction) (labels : MemoryHas
         key_makes s key (press_of s key flags.answer) (in_mode s.mode s key flags.answer (inner flags.answer flags.right)) in
         let right : KeyLeaves key s (becomes made.answer s) =
         (flags.answer, flags.right, made.answer, made.right, becomes-right made.answer s) in
-        record {
-          answer = becomes made.answer s;
-          right = right;
-          only = λ other again.
-              let same = determined key s other.0 (becomes made.answer s).0 other.1 (becomes made.answer s).1 again right in
-              same_left other (becomes made.answer s) same.0 same.1;
-        }
+        one_pair (KeyLeaves key s) (becomes made.answer s) right
+        (λ other again. determined key s other.0 (becomes made.answer s).0 other.1 (becomes made.answer s).1 again right)
 
 -- A key that was pressed.
 pub one_pressed : KeyIsDetermined → (key : Key) (s t : CalculatorState) (refusal : Option CalculatorRefusal) → Presses key s t refusal
     → HasOne (KeyLeaves key s)
-one_pressed determined key s t refusal presses = record {
-  answer = (t, refusal);
-  right = presses;
-  only = λ other again.
-      let same = determined key s other.0 t other.1 refusal again presses in
-      same_left other (t, refusal) same.0 same.1;
-}
+one_pressed determined key s t refusal presses =
+    one_pair (KeyLeaves key s) (t, refusal) presses (λ other again. determined key s other.0 t other.1 refusal again presses)

@@ -1,4 +1,5 @@
 -- Where lines lead.
+use Rattle.h41_laws_calculator.proofs.Chosen.{made_of, one_there}
 use Rattle.std.proofs.Common.{◌⊎◌, ℕ, Bool, true, false, List, [], ◌∷◌, Option, Ok, Err, inl, inr, refl}
 use Rattle.std.specs.Prelude.{reverse}
 use Rattle.std.specs.Option.{option_map}
@@ -36,9 +37,7 @@ module _ (next_or_none : NextOrNone) (starts : PositionHasOne StartOf) (locals :
   asks pages false memory next returns = passes pages memory next returns
 
   goes_back : (pages : PageMap) (memory : RegisterMap) (at : Position) (returns : List Position) → Has (GoesBack pages memory at returns)
-  goes_back pages memory at [] =
-      let start = starts pages memory at in
-      record { answer = Halts start.answer; right = (start.answer, start.right, refl) }
+  goes_back pages memory at [] = made_of Halts (one_there (starts pages memory at))
   goes_back pages memory at (latest ∷ others) = record { answer = Arrives latest (reverse others); right = refl }
 
   steps_from : (pages : PageMap) (going : rows.Going) (memory : RegisterMap) (named : ℕ) (at next : Position) (returns : List Position)
@@ -47,14 +46,10 @@ module _ (next_or_none : NextOrNone) (starts : PositionHasOne StartOf) (locals :
   steps_from pages (rows.Tests condition) memory named at next returns = asks pages (holds_in memory named condition) memory next returns
   steps_from pages (rows.Counts condition) memory named at next returns = asks pages (holds_in memory named condition) memory next returns
   steps_from pages (rows.ToLabel branch label) memory named at next returns =
-      let found = locals label pages memory next in
-      record { answer = found_at branch next returns HasNoLabel found.answer; right = (found.answer, found.right, refl) }
+      made_of (found_at branch next returns HasNoLabel) (one_there (locals label pages memory next))
   steps_from pages (rows.ToName branch name) memory named at next returns =
-      let found = names (λ lines. position_of (named_in name lines)) memory 0 in
-      record {
-        answer = found_at branch next returns (lost_name branch name) (option_map Memory found.answer);
-        right = (found.answer, found.right, refl);
-      }
+      made_of (λ found. found_at branch next returns (lost_name branch name) (option_map Memory found))
+      (one_there (names (λ lines. position_of (named_in name lines)) memory 0))
   steps_from pages rows.Returns memory named at next returns = goes_back pages memory at (reverse returns)
 
   typed_from : (pages : PageMap) (going : rows.Going) (memory : RegisterMap) (named : ℕ) (at : Position) (returns : List Position)
@@ -64,17 +59,11 @@ module _ (next_or_none : NextOrNone) (starts : PositionHasOne StartOf) (locals :
       record { answer = Tells (holds_in memory named condition); right = refl }
   typed_from pages (rows.Counts condition) memory named at returns = record { answer = Stays; right = refl }
   typed_from pages (rows.ToLabel branch label) memory named at returns =
-      let found = locals label pages memory at in
-      record { answer = typed_at branch returns HasNoLabel found.answer; right = (found.answer, found.right, refl) }
+      made_of (typed_at branch returns HasNoLabel) (one_there (locals label pages memory at))
   typed_from pages (rows.ToName branch name) memory named at returns =
-      let found = names (λ lines. position_of (named_in name lines)) memory 0 in
-      record {
-        answer = typed_at branch returns (lost_name branch name) (option_map Memory found.answer);
-        right = (found.answer, found.right, refl);
-      }
-  typed_from pages rows.Returns memory named at returns =
-      let start = starts pages memory at in
-      record { answer = Halts start.answer; right = (start.answer, start.right, refl) }
+      made_of (λ found. typed_at branch returns (lost_name branch name) (option_map Memory found))
+      (one_there (names (λ lines. position_of (named_in name lines)) memory 0))
+  typed_from pages rows.Returns memory named at returns = made_of Halts (one_there (starts pages memory at))
 
   pub goes : (pages : PageMap) (how : Manner) (going : rows.Going) (memory : RegisterMap) (named : ℕ) (at : Position)
       (returns : List Position)

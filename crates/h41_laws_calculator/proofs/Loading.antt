@@ -1,5 +1,5 @@
 -- The result of a load and of a new size, and the text of the display.
-use Rattle.std.proofs.Common.{◌≡◌, ℕ, List, [], Option, Some, None, Result, Err, MatchOption, refl, ap, ◌∙◌}
+use Rattle.std.proofs.Common.{◌≡◌, ℕ, List, [], Option, Some, None, Result, Err, MatchOption, refl}
 use Rattle.std.specs.Prelude.{◌++◌}
 use Rattle.std.specs.Result.{result_err, result_unwrap_or}
 use Rattle.h41_editor.specs.ProgramText.{ShowsProgram}
@@ -15,25 +15,18 @@ use Rattle.h41_xrom.specs.CalculatorLaws.{DisplayIsDetermined, LoadIsDetermined}
 use Rattle.h41_xrom.specs.Display.{ShowsDisplay, ShowsEntry, ShowsMessage, ShowsPrompt, ShowsShownLine, cursor_of, entry_text, shown_prompt}
 use Rattle.h41_xrom.specs.Programs.{Becomes, LoadMakes, after_load, change_refusal, size_makes}
 use Rattle.h41_xrom.specs.declared.refusal.CalculatorRefusal.{CalculatorRefusal}
-use Rattle.h41_laws_words.proofs.Answering.{Has}
+use Rattle.h41_laws_words.proofs.Answering.{Has, has_one}
 use Rattle.h41_laws_calculator.specs.ProgramChanges.{LoadHasOneOutcome}
 use Rattle.h41_laws_calculator.specs.CalculatorAnswers as answers
 use Rattle.h41_laws_calculator.specs.CalculatorAnswers.{DisplayHasOneText, SizeHasOneOutcome}
-use Rattle.h41_laws_calculator.proofs.Chosen.{alone, either}
+use Rattle.h41_laws_calculator.proofs.Chosen.{alone, either, made_of, one_pair, one_there, same_pair}
 
--- A state and a refusal as a pair.
+-- What was made, as a state and a refusal.
 abbrev Left : Type 0
 Left = CalculatorState × Option CalculatorRefusal
 
-abbrev left : CalculatorState → Option CalculatorRefusal → Left
-left t why = (t, why)
-
-pub same_left : (x y : Left) → x.0 ≡ y.0 → x.1 ≡ y.1 → x ≡ y
-same_left x y p q = ap (λ (t : CalculatorState). left t x.1) p ∙ ap (λ (why : Option CalculatorRefusal). left y.0 why) q
-
--- What was made, as a state and a refusal.
 pub becomes : Result CalculatorState CalculatorRefusal → CalculatorState → Left
-becomes made s = left (result_unwrap_or made s) (result_err made)
+becomes made s = (result_unwrap_or made s, result_err made)
 
 pub becomes-right : (made : Result CalculatorState CalculatorRefusal) (s : CalculatorState)
     → Becomes made s (becomes made s).0 (becomes made s).1
@@ -43,7 +36,7 @@ becomes-right made s = (refl, refl)
 pub only_becomes : (made : Result CalculatorState CalculatorRefusal) (s : CalculatorState) (other : Left)
     → Becomes made s other.0 other.1 → other ≡ becomes made s
 unfolding becomes
-only_becomes made s other is = same_left other (becomes made s) is.0 is.1
+only_becomes made s other is = same_pair other (becomes made s) is.0 is.1
 
 pub one_size : SizeHasOneOutcome
 one_size count s = record {
@@ -60,9 +53,7 @@ module _ (loads : LoadHasOneOutcome) where
 
   makes_by : (why : Option CalculatorRefusal) (s : CalculatorState) (bytes : List ℕ)
       → Has (λ made. MatchOption why (Made s bytes made) (λ why. made ≡ Err why))
-  makes_by None s bytes =
-      let outcome = loads s.nut.ram bytes in
-      record { answer = after_load s outcome.answer; right = (outcome.answer, outcome.right, refl) }
+  makes_by None s bytes = made_of (after_load s) (one_there (loads s.nut.ram bytes))
   makes_by (Some why) s bytes = alone (Err why)
 
   makes : (s : CalculatorState) (bytes : List ℕ) → Has (LoadMakes s bytes)
@@ -72,20 +63,13 @@ module _ (loads : LoadHasOneOutcome) where
   one_load determined bytes s =
       let made = makes s bytes in
       let right : answers.LoadLeaves bytes s (becomes made.answer s) = (made.answer, made.right, becomes-right made.answer s) in
-      record {
-        answer = becomes made.answer s;
-        right = right;
-        only = λ other again.
-            let same = determined bytes s other.0 (becomes made.answer s).0 other.1 (becomes made.answer s).1 again right in
-            same_left other (becomes made.answer s) same.0 same.1;
-      }
+      one_pair (answers.LoadLeaves bytes s) (becomes made.answer s) right
+      (λ other again. determined bytes s other.0 (becomes made.answer s).0 other.1 (becomes made.answer s).1 again right)
 
 -- The display.
 module _ (programs : (pages : PageMap) (machine : Machine) → Has (ShowsProgram pages machine)) where
   shown_line : (pages : PageMap) (machine : Machine) (entry : TypedEntry) → Has (ShowsShownLine pages machine entry)
-  shown_line pages machine entry =
-      let shown = programs pages machine in
-      record { answer = shown.answer ++ cursor_of entry; right = (shown.answer, shown.right, refl) }
+  shown_line pages machine entry = made_of (λ found. found ++ cursor_of entry) (programs pages machine)
 
   shown_entry : (s : CalculatorState) → Has (ShowsEntry s)
   shown_entry s =
@@ -102,10 +86,7 @@ module _ (programs : (pages : PageMap) (machine : Machine) → Has (ShowsProgram
   shows_message s None = shows_prompt s s.input.prompt
 
   shows : (s : CalculatorState) → Has (ShowsDisplay s)
-  shows s =
-      either s.nut.processor.display (ShowsMessage s s.message) (λ text. text ≡ []) (shows_message s s.message) (alone [])
+  shows s = either s.nut.processor.display (ShowsMessage s s.message) (λ text. text ≡ []) (shows_message s s.message) (alone [])
 
   pub one_text : DisplayIsDetermined → DisplayHasOneText
-  one_text determined s =
-      let found = shows s in
-      record { answer = found.answer; right = found.right; only = λ other again. determined s other found.answer again found.right }
+  one_text determined s = has_one (shows s) (determined s)

@@ -25,11 +25,11 @@ use Rattle.h41_program.specs.declared.listed_line.ListedLine.{ListedLine}
 use Rattle.h41_program.specs.declared.refusal.ProgramRefusal.{ProgramRefusal}
 use Rattle.h41_program.specs.declared.refusal.ProgramRefusal.TheVariants.{BrokenProgram}
 use Rattle.h41_ram.specs.RegisterMap.{RegisterMap, is_sound}
-use Rattle.h41_laws_words.proofs.Answering.{Has}
+use Rattle.h41_laws_words.proofs.Answering.{Has, has_one}
 use Rattle.h41_laws_calculator.specs.ProgramAnswers.{PositionHasOne}
 use Rattle.h41_laws_calculator.specs.ProgramChanges.{ChangeHasOneAnswer, EditHasOneOutcome}
 use Rattle.h41_laws_calculator.specs.ProgramMode.{MoveHasOneOutcome}
-use Rattle.h41_laws_calculator.proofs.Chosen.{alone, either}
+use Rattle.h41_laws_calculator.proofs.Chosen.{alone, either, made_of, one_there, through}
 
 -- The result of a move or a change.
 abbrev Moved : Type 0
@@ -37,28 +37,19 @@ Moved = Result Machine ProgramRefusal
 
 pub one_move : (Moves : Machine → Moved → Type 0) → MoveIsDetermined Moves → ((machine : Machine) → Has (Moves machine))
     → MoveHasOneOutcome Moves
-one_move Moves determined some machine =
-    let found = some machine in
-    record { answer = found.answer; right = found.right; only = λ other again. determined machine other found.answer again found.right }
+one_move Moves determined some machine = has_one (some machine) (determined machine)
 
 module _ (lines : PositionHasOne LineAt) (numbers : PositionHasOne NumberAt) where
   numbered_in : (pages : PageMap) (memory : RegisterMap) (first : Result PlacedLine ProgramRefusal) → Has (Numbers pages memory first)
-  numbered_in pages memory (Ok first) =
-      let number = numbers pages memory first.position in
-      record { answer = option_map (with_number first) number.answer; right = (number.answer, number.right, refl) }
+  numbered_in pages memory (Ok first) = made_of (option_map (with_number first)) (one_there (numbers pages memory first.position))
   numbered_in pages memory (Err refusal) = alone None
 
   pub numbered : (pages : PageMap) (memory : RegisterMap) (at : Position) → Has (HasNumbered pages memory at)
-  numbered pages memory at =
-      let first = lines pages memory at in
-      let found = numbered_in pages memory first.answer in
-      record { answer = found.answer; right = (first.answer, first.right, found.right) }
+  numbered pages memory at = through (one_there (lines pages memory at)) (λ first _. numbered_in pages memory first)
 
   -- The text of the program.
   shows_line : (pages : PageMap) (machine : Machine) → Has (ShowsLine pages machine)
-  shows_line pages machine =
-      let found = numbered pages machine.memory machine.focal.position in
-      record { answer = text_of found.answer; right = (found.answer, found.right, refl) }
+  shows_line pages machine = made_of text_of (numbered pages machine.memory machine.focal.position)
 
   pub shows_program : (pages : PageMap) (machine : Machine) → Has (ShowsProgram pages machine)
   shows_program pages machine =
@@ -71,9 +62,7 @@ module _ (lines : PositionHasOne LineAt) (numbers : PositionHasOne NumberAt) whe
 
   module _ (starts : PositionHasOne StartOf) where
     shows_start : (pages : PageMap) (machine : Machine) → Has (ShowsStart pages machine)
-    shows_start pages machine =
-        let start = starts pages machine.memory machine.focal.position in
-        record { answer = _; right = (start.answer, start.right, refl) }
+    shows_start pages machine = made_of _ (one_there (starts pages machine.memory machine.focal.position))
 
     -- The key SST.
     module _ (nexts : PositionHasOne NextAt) (onward : LinesHaveNext) where
@@ -89,9 +78,7 @@ module _ (lines : PositionHasOne LineAt) (numbers : PositionHasOne NumberAt) whe
 
       abbrev ShowsOn : PageMap → Machine → Moved → Type 0
       ShowsOn pages machine moved =
-          (next : Position)
-          × NextAt pages machine.memory machine.focal.position (Ok next)
-          × (moved ≡ Ok (at_line next machine))
+          (next : Position) × NextAt pages machine.memory machine.focal.position (Ok next) × (moved ≡ Ok (at_line next machine))
 
       shows_on : (pages : PageMap) (machine : Machine) → Next pages machine → Has (ShowsOn pages machine)
       shows_on pages machine next = record { answer = Ok (at_line next.0 machine); right = (next.0, next.1, refl) }
@@ -111,10 +98,7 @@ module _ (lines : PositionHasOne LineAt) (numbers : PositionHasOne NumberAt) whe
           × ShowsAfterLine pages machine first moved
 
       shows_from : (pages : PageMap) (machine : Machine) → Has (ShowsFrom pages machine)
-      shows_from pages machine =
-          let first = lines pages machine.memory machine.focal.position in
-          let moved = shows_behind pages machine first.answer first.right in
-          record { answer = moved.answer; right = (first.answer, first.right, moved.right) }
+      shows_from pages machine = through (one_there (lines pages machine.memory machine.focal.position)) (shows_behind pages machine)
 
       pub shows_next : (pages : PageMap) (machine : Machine) → Has (ShowsNext pages machine)
       shows_next pages machine =
@@ -124,9 +108,7 @@ module _ (lines : PositionHasOne LineAt) (numbers : PositionHasOne NumberAt) whe
     -- The key BST.
     module _ (ends : PositionHasOne EndOf) (befores : PositionHasOne LineBefore) where
       shows_end : (pages : PageMap) (machine : Machine) (first : PlacedLine) → Has (ShowsEnd pages machine first)
-      shows_end pages machine first =
-          let end = ends pages machine.memory first.position in
-          record { answer = shown_end machine end.answer; right = (end.answer, end.right, refl) }
+      shows_end pages machine first = made_of (shown_end machine) (one_there (ends pages machine.memory first.position))
 
       shows_at : (pages : PageMap) (machine : Machine) (before : Option Position) → Has (ShowsAt pages machine before)
       shows_at pages machine (Some position) = alone (Ok (at_line position machine))
@@ -134,9 +116,7 @@ module _ (lines : PositionHasOne LineAt) (numbers : PositionHasOne NumberAt) whe
 
       shows_in_front : (pages : PageMap) (machine : Machine) (first : PlacedLine) → Has (ShowsInFront pages machine first)
       shows_in_front pages machine first =
-          let before = befores pages machine.memory first.position in
-          let moved = shows_at pages machine before.answer in
-          record { answer = moved.answer; right = (before.answer, before.right, moved.right) }
+          through (one_there (befores pages machine.memory first.position)) (λ before _. shows_at pages machine before)
 
       shows_before_line : (pages : PageMap) (machine : Machine) (numbered : Option NumberedLine)
           → Has (ShowsBeforeLine pages machine numbered)
@@ -147,9 +127,7 @@ module _ (lines : PositionHasOne LineAt) (numbers : PositionHasOne NumberAt) whe
 
       pub shows_before : (pages : PageMap) (machine : Machine) → Has (ShowsBefore pages machine)
       shows_before pages machine =
-          let found = numbered pages machine.memory machine.focal.position in
-          let moved = shows_before_line pages machine found.answer in
-          record { answer = moved.answer; right = (found.answer, found.right, moved.right) }
+          through (numbered pages machine.memory machine.focal.position) (λ found _. shows_before_line pages machine found)
 
 -- The keys GTO . .
 module _ (lists : OneList) where
@@ -179,10 +157,7 @@ module _ (lines : PositionHasOne LineAt) (edits : EditHasOneOutcome) (fronts : C
   shows_front machine at (Err refusal) gone = alone (Err refusal)
 
   deletes_at : (machine : Machine) (position : Position) → Has (DeletesAt machine position)
-  deletes_at machine (Memory at) =
-      let changed = edits machine.memory without_deleted at in
-      let shown = shows_front machine at changed.answer changed.right in
-      record { answer = shown.answer; right = (changed.answer, changed.right, shown.right) }
+  deletes_at machine (Memory at) = through (one_there (edits machine.memory without_deleted at)) (shows_front machine at)
   deletes_at machine (Page address) = alone (Err BrokenProgram)
 
   deletes_line : (machine : Machine) (first : Result PlacedLine ProgramRefusal) → Has (DeletesLine machine first)
@@ -193,15 +168,11 @@ module _ (lines : PositionHasOne LineAt) (edits : EditHasOneOutcome) (fronts : C
 
   abbrev DeletesShown : PageMap → Machine → Moved → Type 0
   DeletesShown pages machine made =
-      (first : Result PlacedLine ProgramRefusal)
-      × LineAt pages machine.memory machine.focal.position first
-      × DeletesLine machine first made
+      (first : Result PlacedLine ProgramRefusal) × LineAt pages machine.memory machine.focal.position first × DeletesLine machine first made
 
   deletes_shown : (pages : PageMap) (machine : Machine) → Has (DeletesShown pages machine)
   deletes_shown pages machine =
-      let first = lines pages machine.memory machine.focal.position in
-      let made = deletes_line machine first.answer in
-      record { answer = made.answer; right = (first.answer, first.right, made.right) }
+      through (one_there (lines pages machine.memory machine.focal.position)) (λ first _. deletes_line machine first)
 
   pub deletes : (pages : PageMap) (machine : Machine) → Has (Deletes pages machine)
   deletes pages machine =

@@ -1,6 +1,6 @@
 -- Any characters name one function of the calculator, or none.
-use Rattle.std.proofs.Common.{◌≡◌, ◌⊎◌, ◌-◌, ℕ, zero, suc, Bool, true, false, List, [], ◌∷◌, Some, None, inl, inr, get_or, refl}
-use Rattle.std.proofs.Common.{bytes_eq, subst, sym, ◌∙◌}
+use Rattle.std.proofs.Common.{◌≡◌, ◌⊎◌, ◌-◌, ℕ, zero, suc, Bool, true, false, List, [], ◌∷◌, Some, None, inl, inr, get_or, refl, rules}
+use Rattle.std.proofs.Common.{bytes_eq}
 use Rattle.std.specs.List.{AllByRecursion}
 use Rattle.std.proofs.lemmas.Bool.{true≢false}
 use Rattle.std.proofs.lemmas.Slice.Eq.{bytes_eq-Decides}
@@ -11,7 +11,7 @@ use Rattle.h41_codes.specs.Functions.{functions}
 use Rattle.h41_text.specs.Names.{function_name}
 use Rattle.h41_focal.specs.LineLaws.{NameIsDetermined}
 use Rattle.h41_focal.specs.OutsideCalls.{IsNamed}
-use Rattle.h41_laws_words.proofs.Answering.{Has}
+use Rattle.h41_laws_words.proofs.Answering.{Has, has_one}
 use Rattle.h41_laws_calculator.specs.LineEnds.{NameHasOneFunction}
 
 -- Each function is in the list of functions, at the place that its code gives.
@@ -27,8 +27,7 @@ at_place Claim (first ∷ rest) zero other all holds = all.0
 at_place Claim (first ∷ rest) (suc place) other all holds = at_place Claim rest place other all.1 holds
 
 of_all : (Claim : Function → Type 0) (function : Function) → AllByRecursion Claim functions → Claim function
-of_all Claim function all =
-    subst Claim (in_list function) (at_place Claim functions (function_code function - 0x40) Add all all.0)
+of_all Claim function all = rw (← (in_list function)) (at_place Claim functions (function_code function - 0x40) Add all all.0)
 
 module _ (name : List ℕ) where
   abbrev IsNot : Function → Type 0
@@ -39,8 +38,7 @@ module _ (name : List ℕ) where
 
   one_more : (function : Function) (same : Bool) → bytes_eq (function_name function) name ≡ same → One ⊎ IsNot function
   one_more function true same = inl (function, (bytes_eq-Decides (function_name function) name).0 same)
-  one_more function false same =
-      inr (λ is. true≢false (sym ((bytes_eq-Decides (function_name function) name).1 is) ∙ same))
+  one_more function false same = search (rules, true≢false, bytes_eq-Decides)
 
   in_list_or_none : (list : List Function) → One ⊎ AllByRecursion IsNot list
   in_list_or_none [] = inr tt
@@ -56,6 +54,4 @@ module _ (name : List ℕ) where
   ]
 
 pub one_function : NameIsDetermined → NameHasOneFunction
-one_function same_function name =
-    let found = named name in
-    record { answer = found.answer; right = found.right; only = λ other again. same_function name other found.answer again found.right }
+one_function same_function name = has_one (named name) (same_function name)

@@ -9,9 +9,10 @@ use Rattle.h41_decimal.specs.declared.parts.Exponent.{Exponent}
 use Rattle.h41_decimal.specs.declared.sign.Sign.{Sign}
 use Rattle.h41_decimal.specs.declared.sign.Sign.TheVariants.{Plus, Minus}
 use Rattle.h41_numbers.specs.NumberLaws.{NumbersAreDetermined}
-use Rattle.h41_numbers.specs.NumberLines.{IsNumberOf, biased_by, decimal_places, digit_of, digits_in, exponent_size, mantissa_digits}
+use Rattle.h41_numbers.specs.NumberLines.{biased_by, decimal_places, digit_of, digits_in, exponent_size, mantissa_digits}
 use Rattle.h41_numbers.specs.NumberLines.{number_from, sign_in}
 use Rattle.h41_laws_words.specs.DecimalAnswers.{TypedHasOneNumber}
+use Rattle.h41_laws_words.proofs.Answering.{has_one}
 use Rattle.h41_laws_calculator.specs.LineValues.{NumberLineHasOneNumber}
 
 abbrev AreDigits : List ℕ → Type 0
@@ -54,5 +55,6 @@ pub one_number : TypedHasOneNumber → NumbersAreDetermined → NumberLineHasOne
 one_number typed determined text =
     let exponent = exponent_of text in
     let found = typed (sign_in (mantissa_part text)) (number_from 0 (mantissa_digits text)) (decimal_places text) exponent in
-    let is : IsNumberOf text found.answer = record { exponent = exponent; biased = exponent_of-biased text; typed = found.right } in
-    record { answer = found.answer; right = is; only = λ other right. determined text other found.answer right is }
+    has_one
+    (record { answer = found.answer; right = record { exponent = exponent; biased = exponent_of-biased text; typed = found.right } })
+    (determined text)

@@ -1,5 +1,5 @@
 -- A function of a module has numbers that a line can contain.
-use Rattle.std.proofs.Common.{◌≡◌, ℕ, ◌<◌, ◌≤◌, Bool, true, false, List, [], ◌∷◌, Option, Some, None, arith}
+use Rattle.std.proofs.Common.{◌≡◌, ℕ, ◌<◌, ◌≤◌, Bool, true, false, List, [], ◌∷◌, Option, Some, None, arith, rules}
 use Rattle.std.proofs.Common.{if◌then◌else◌, length, refl, slice_index}
 use Rattle.std.specs.Prelude.{◌&&◌, IfSome, find, nat_le, option_map, All}
 use Rattle.std.specs.List.{flat_map, range_with_len}
@@ -9,7 +9,7 @@ use Rattle.std.proofs.lemmas.List.Elements.{All-append, All-map, All-nil, All-ta
 use Rattle.std.proofs.lemmas.List.FromFn.{get_or-range_with_len, length-range_with_len}
 use Rattle.std.proofs.Math.ListN.{get_or}
 use Rattle.h41_pages.specs.FunctionTables.{AreNumbers, all_pages, entry_count, first_image, function_in, function_of_name, functions}
-use Rattle.h41_pages.specs.FunctionTables.{functions_at, functions_of, has_functions, is_named, number_in, numbers_of}
+use Rattle.h41_pages.specs.FunctionTables.{functions_at, functions_of, has_functions, is_named, numbers_of}
 use Rattle.h41_pages.specs.PageMap.{PageImage, PageMap}
 use Rattle.h41_pages.specs.declared.functions.ModuleFunction.{ModuleFunction}
 
@@ -32,25 +32,17 @@ three a b c is = cc
 -- The table entries of a page.
 counted : (words : List ℕ) (has : Bool) → has_functions words ≡ has → (k : ℕ) → k < (if has then slice_index words 1 else 0)
     → IsNumbered (function_in words k)
-counted words true is k less =
-    let parts = three (nat_le 1 (number_in words)) (nat_le (number_in words) 31) (nat_le (slice_index words 1) 64) is in
-    let count = few (slice_index words 1) parts.2 in
-    (least (number_in words) parts.0, most (number_in words) parts.1, omega (arith, less, count))
+counted words true is k less = search (rules, three, few, least, most)
 counted words false is k less = absurd (omega (arith, less))
 
 below_count : (words : List ℕ) (k : ℕ) → k < entry_count words → IsNumbered (function_in words k)
 below_count words k less = counted words (has_functions words) refl k less
 
 in_range : (count i d : ℕ) → i < length (range_with_len 0 count) → get_or (range_with_len 0 count) i d < count
-in_range count i d within =
-    let size = length-range_with_len 0 count in
-    let at = get_or-range_with_len 0 count i d (omega (arith, within, size)) in
-    omega (arith, within, size, at)
+in_range count i d within = search (rules, length-range_with_len, get_or-range_with_len)
 
 of_page : (words : List ℕ) → All IsNumbered (functions_of words)
-of_page words =
-    All-map IsNumbered (function_in words) (range_with_len 0 (entry_count words))
-    (λ i d within. below_count words (get_or (range_with_len 0 (entry_count words)) i d) (in_range (entry_count words) i d within))
+of_page words = search (rules, All-map, below_count, in_range)
 
 at_page : (image : Option PageImage) → All IsNumbered (option_map_or (λ image. functions_of image.words) image [])
 at_page None = All-nil IsNumbered
@@ -63,8 +55,7 @@ all_numbered pages (page ∷ places) =
     (all_numbered pages places)
 
 by_test : (t : Bool) (first : ModuleFunction) (more : Option ModuleFunction) → IsNumbered first
-    → IfSome (option_map numbers_of more) AreNumbers
-    → IfSome (option_map numbers_of (if t then Some first else more)) AreNumbers
+    → IfSome (option_map numbers_of more) AreNumbers → IfSome (option_map numbers_of (if t then Some first else more)) AreNumbers
 by_test true first more own rest = own
 by_test false first more own rest = rest
 

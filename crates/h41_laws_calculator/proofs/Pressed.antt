@@ -1,17 +1,12 @@
 -- Keys leave calculators whole.
-use Rattle.std.proofs.Common.{◌≡◌, ℕ, ◌<◌, Bool, true, false, List, [], ◌∷◌, ◌++◌, take, Option, Some, None, Result, Ok, Err, refl, sym}
-use Rattle.std.proofs.Common.{subst, arith}
+use Rattle.std.proofs.Common.{ℕ, ◌<◌, Bool, true, List, [], Option, Some, None, Result, Ok, Err, refl, arith, rules, ◌∷◌, false, ◌++◌, take}
 use Rattle.std.specs.Prelude.{IfSome, not}
 use Rattle.std.proofs.lemmas.List.Elements.{All-append, All-nil, All-take}
-use Rattle.h41_codes.specs.declared.characters.Character.{Character}
 use Rattle.h41_codes.specs.declared.functions.Function.{Function}
-use Rattle.h41_codes.specs.declared.functions.Function.TheVariants.{ClearX}
 use Rattle.h41_codes.specs.declared.functions.NameFunction.TheVariants.{ExecuteName}
 use Rattle.h41_codes.specs.declared.line.Line.{Line}
 use Rattle.h41_codes.specs.declared.line.Line.TheVariants as lines
 use Rattle.h41_digits.specs.Register.{IsRegister}
-use Rattle.h41_editor.specs.Changes.{Deletes, Inserts, Replaces}
-use Rattle.h41_editor.specs.Moves.{GoesToEnd, ShowsBefore, ShowsNext}
 use Rattle.h41_positions.specs.FocalState.{Machine}
 use Rattle.h41_focal.specs.LineStep.{Left}
 use Rattle.h41_focal.specs.declared.refusal.FocalRefusal.{FocalRefusal}
@@ -22,22 +17,17 @@ use Rattle.h41_keys.specs.declared.input.Input.{Input}
 use Rattle.h41_keys.specs.declared.input.Pressed.{Pressed}
 use Rattle.h41_keys.specs.declared.key.Key.{Key}
 use Rattle.h41_keys.specs.declared.key.Key.TheVariants as keyboard
-use Rattle.h41_pages.specs.FunctionTables.{AreNumbers, function_of_name}
+use Rattle.h41_pages.specs.FunctionTables.{AreNumbers}
 use Rattle.h41_pages.specs.PageMap.{PageMap}
 use Rattle.h41_program.specs.ProgramLaws.{IsInner}
 use Rattle.h41_program.specs.declared.refusal.ProgramRefusal.{ProgramRefusal}
 use Rattle.h41_ram.specs.NamedFlags.{alpha_entry, alpha_mode, number_entry}
-use Rattle.h41_ram.specs.RegisterMap.{RegisterMap, alpha_of, flag_of}
-use Rattle.h41_rows.specs.Places.{X}
-use Rattle.h41_rows.specs.RowEffects.{last_24, takes_of}
-use Rattle.h41_rows.specs.Rows.{coming_in, compute}
-use Rattle.h41_rows.specs.Values.{Written}
+use Rattle.h41_ram.specs.RegisterMap.{RegisterMap, flag_of, alpha_of}
+use Rattle.h41_rows.specs.RowEffects.{last_24}
 use Rattle.h41_xrom.specs.Calculator.{CalculatorState, machine_of}
-use Rattle.h41_xrom.specs.KeyActions.{Acts, BeginsNumber, Carries, ChangesNumber, Edits, IsStoredAs, KeyMakes, StoredFunction}
-use Rattle.h41_xrom.specs.KeyActions.{StoredIfNoLabel, StoredName, StoresLine, activity_of, after_outcome, edit_effect, key_refusal}
-use Rattle.h41_xrom.specs.KeyActions.{line_effect, press_of, taken_in, with_key_accepted, with_letters, with_text}
+use Rattle.h41_xrom.specs.KeyActions.{Acts, Carries, Edits, IsStoredAs, KeyMakes, StoredFunction, StoredIfNoLabel, StoredName, key_refusal}
+use Rattle.h41_xrom.specs.KeyActions.{after_outcome, edit_effect, line_effect, taken_in, with_key_accepted, with_letters, with_text}
 use Rattle.h41_focal.specs.OutsideCalls.{LineSource}
-use Rattle.h41_focal.specs.OutsideCalls as sources
 use Rattle.h41_xrom.specs.declared.refusal.CalculatorRefusal.{CalculatorRefusal}
 use Rattle.h41_laws_calculator.proofs.Numbered.{are_numbers}
 use Rattle.h41_laws_calculator.specs.Keys.{KeyHasOneOutcome, PressStoresInner, StoresInner}
@@ -49,6 +39,10 @@ use Rattle.h41_laws_calculator.proofs.Edited.{MachineKept, before_kept, deleted_
 use Rattle.h41_laws_calculator.proofs.WholeLines.{IsWholeSource, Leaves, computed_by, line_leaves, matched}
 use Rattle.h41_laws_calculator.proofs.WholeMemories.{all_taken, alpha_of_bytes, alpha_written, flagged}
 use Rattle.h41_laws_calculator.proofs.WholeStates.{MadeWhole, becomes_whole, by_refusal, line_left, memory_of}
+use Rattle.h41_editor.specs.Moves.{ShowsNext}
+use Rattle.h41_focal.specs.OutsideCalls as sources
+use Rattle.h41_rows.specs.Values.{Written}
+use Rattle.std.proofs.Common.{◌≡◌}
 
 -- The result of an action, if there is one.
 abbrev Made : Type 0
@@ -65,8 +59,7 @@ line_made (Err refusal) whole = tt
 
 carried : (source : LineSource) (pages : PageMap) (machine : Machine) (effect : Made) → IsWholeSource source → IsWholeMemory machine.memory
     → Carries source pages machine effect → LeavesWhole effect
-carried source pages machine effect valid whole is =
-    subst LeavesWhole (sym is.2) (line_made is.0 (line_leaves source pages machine is.0 valid whole is.1))
+carried source pages machine effect valid whole is = rw is.2 (line_made is.0 (line_leaves source pages machine is.0 valid whole is.1))
 
 -- Program mode.
 edit_made : (made : Result Machine ProgramRefusal) → MachineKept made → LeavesWhole (edit_effect made)
@@ -75,57 +68,33 @@ edit_made (Err refusal) whole = tt
 
 edited : (Edit : Machine → Result Machine ProgramRefusal → Type 0) (machine : Machine) (effect : Made)
     → ((made : Result Machine ProgramRefusal) → Edit machine made → MachineKept made) → Edits Edit machine effect → LeavesWhole effect
-edited Edit machine effect kept is = subst LeavesWhole (sym is.2) (edit_made is.0 (kept is.0 is.1))
+edited Edit machine effect kept is = rw is.2 (edit_made is.0 (kept is.0 is.1))
 
 -- A line that is stored.
 stored_function : (line : Line) (function : Option Function) (stored : Line) → IsInner line → StoredFunction line function stored
     → IsInner stored
-stored_function line (Some function) stored inner is = subst IsInner (sym is) (record { valid = tt; inner = refl })
-stored_function line None stored inner is = subst IsInner (sym is) inner
+stored_function line (Some function) stored inner is = rw is (record { valid = tt; inner = refl })
+stored_function line None stored inner is = rw is inner
 
 stored_elsewhere : (line : Line) (name : List ℕ) (numbers : Option (ℕ × ℕ)) (stored : Line) → IsInner line → IfSome numbers AreNumbers
     → StoredIfNoLabel line name numbers stored → IsInner stored
-stored_elsewhere line name (Some numbers) stored inner are is =
-    subst IsInner (sym is) (record { valid = (are.1, are.2); inner = refl })
+stored_elsewhere line name (Some numbers) stored inner are is = search rules
 stored_elsewhere line name None stored inner are is = stored_function line is.0 stored inner is.2
 
 stored_name : (pages : PageMap) (line : Line) (name : List ℕ) (label : Option ℕ) (stored : Line) → IsInner line
     → StoredName pages line name label stored → IsInner stored
-stored_name pages line name (Some position) stored inner is = subst IsInner (sym is) inner
-stored_name pages line name None stored inner is =
-    stored_elsewhere line name (function_of_name pages name) stored inner (are_numbers pages name) is
+stored_name pages line name (Some position) stored inner is = rw is inner
+stored_name pages line name None stored inner is = search (rules, stored_elsewhere, are_numbers)
 
 stored_as : (pages : PageMap) (memory : RegisterMap) (line stored : Line) → IsInner line → IsStoredAs pages memory line stored
     → IsInner stored
-stored_as pages memory (lines.Named ExecuteName name) stored inner is =
-    stored_name pages (lines.Named ExecuteName name) name is.0 stored inner is.2
-stored_as pages memory line stored inner is = subst IsInner (sym is) inner
-
-stores : (pages : PageMap) (line : Line) (machine : Machine) (effect : Made) → IsInner line → IsWholeMemory machine.memory
-    → StoresLine pages line machine effect → LeavesWhole effect
-stores pages line machine effect inner whole is =
-    edited (Inserts pages is.0) machine effect
-    (λ made. inserted_kept pages is.0 machine made (stored_as pages machine.memory line is.0 inner is.1) whole) is.2
+stored_as pages memory (lines.Named ExecuteName name) stored inner is = search (rules, stored_name)
+stored_as pages memory line stored inner is = rw is inner
 
 -- Numbers.
 number_taken : (memory : RegisterMap) (lift : Bool) (register : List ℕ) → IsWholeMemory memory → IsRegister 14 register
     → IsWholeMemory (taken_in memory lift register)
-number_taken memory lift register whole valid =
-    all_taken memory 0 register (takes_of (coming_in (compute X)) lift) memory whole valid whole
-
-begins : (text : List Character) (machine : Machine) (effect : Made) → IsWholeMemory machine.memory → BeginsNumber text machine effect
-    → LeavesWhole effect
-begins text machine effect whole is =
-    let valid = computed_by (Written text) machine.memory 0 (Ok is.0) is.1 in
-    let memory = taken_in machine.memory machine.focal.lift is.0 in
-    let taken : IsWholeMemory memory = number_taken machine.memory machine.focal.lift is.0 whole valid in
-    subst LeavesWhole (sym is.2) (flagged memory number_entry true taken)
-
-changes : (text : List Character) (machine : Machine) (effect : Made) → IsWholeMemory machine.memory → ChangesNumber text machine effect
-    → LeavesWhole effect
-changes text machine effect whole is =
-    let valid = computed_by (Written text) machine.memory 0 (Ok is.0) is.1 in
-    subst LeavesWhole (sym is.2) (number_taken machine.memory false is.0 whole valid)
+number_taken memory lift register whole valid = search (rules, all_taken)
 
 -- The ALPHA register.
 text_set : (memory : RegisterMap) (text : List ℕ) → IsWholeMemory memory → AreBytes text → IsWholeMemory (with_text memory text)
@@ -139,39 +108,33 @@ acts : (pages : PageMap) (program_mode : Bool) (action : Action) (machine : Mach
     → IsWholeMemory machine.memory → Acts pages program_mode action machine effect → LeavesWhole effect
 acts pages program_mode actions.Step machine effect valid whole is =
     matched program_mode (Edits (ShowsNext pages) machine effect) (Carries sources.Program pages machine effect) (LeavesWhole effect) is
-    (edited (ShowsNext pages) machine effect (λ made. next_kept pages machine made whole))
-    (carried sources.Program pages machine effect tt whole)
-acts pages program_mode actions.StepBack machine effect valid whole is =
-    edited (ShowsBefore pages) machine effect (λ made. before_kept pages machine made whole) is
-acts pages program_mode actions.GoToEnd machine effect valid whole is =
-    edited GoesToEnd machine effect (λ made. end_kept machine made whole) is
-acts pages program_mode (actions.CarryOut line) machine effect valid whole is =
-    carried (sources.Keys line) pages machine effect valid whole is
-acts pages program_mode (actions.Insert line) machine effect valid whole is = stores pages line machine effect valid whole is
-acts pages program_mode (actions.Replace line) machine effect valid whole is =
-    edited (Replaces line) machine effect (λ made. replaced_kept line machine made valid whole) is
-acts pages program_mode actions.Delete machine effect valid whole is =
-    edited (Deletes pages) machine effect (λ made. deleted_kept pages machine made whole) is
-acts pages program_mode (actions.BeginNumber text) machine effect valid whole is = begins text machine effect whole is
-acts pages program_mode (actions.ChangeNumber text) machine effect valid whole is = changes text machine effect whole is
-acts pages program_mode actions.EndNumber machine effect valid whole is =
-    carried (sources.Keys (lines.Plain ClearX)) pages machine effect tt whole is
+    (edited (ShowsNext pages) machine effect (next_kept pages machine whole)) (carried sources.Program pages machine effect tt whole)
+acts pages program_mode actions.StepBack machine effect valid whole is = search (rules, edited, before_kept)
+acts pages program_mode actions.GoToEnd machine effect valid whole is = search (rules, edited, end_kept)
+acts pages program_mode (actions.CarryOut line) machine effect valid whole is = search (rules, carried)
+acts pages program_mode (actions.Insert line) machine effect valid whole is = search (rules, edited, inserted_kept, stored_as)
+acts pages program_mode (actions.Replace line) machine effect valid whole is = search (rules, edited, replaced_kept)
+acts pages program_mode actions.Delete machine effect valid whole is = search (rules, edited, deleted_kept)
+acts pages program_mode (actions.BeginNumber text) machine effect valid whole is =
+    let register = computed_by (Written text) machine.memory 0 (Ok is.0) is.1 in
+    rw is.2 (flagged (taken_in machine.memory machine.focal.lift is.0) number_entry true
+    (number_taken machine.memory machine.focal.lift is.0 whole register))
+acts pages program_mode (actions.ChangeNumber text) machine effect valid whole is =
+    rw is.2 (number_taken machine.memory false is.0 whole (computed_by (Written text) machine.memory 0 (Ok is.0) is.1))
+acts pages program_mode actions.EndNumber machine effect valid whole is = search (rules, carried)
 acts pages program_mode actions.ToggleAlpha machine effect valid whole is =
-    subst LeavesWhole (sym is) (flagged machine.memory alpha_mode (not (flag_of machine.memory alpha_mode)) whole)
+    rw is (flagged machine.memory alpha_mode (not (flag_of machine.memory alpha_mode)) whole)
 acts pages program_mode (actions.BeginText letter) machine effect valid whole is =
-    subst LeavesWhole (sym is) (letters_set machine.memory (letter ∷ []) whole (alone letter valid))
+    rw is (letters_set machine.memory (letter ∷ []) whole (alone letter valid))
 acts pages program_mode (actions.AddLetter letter) machine effect valid whole is =
     let text = alpha_of machine.memory in
-    subst LeavesWhole (sym is)
-    (letters_set machine.memory (text ++ letter ∷ []) whole
+    rw is (letters_set machine.memory (text ++ letter ∷ []) whole
     (All-append IsByte text (letter ∷ []) (alpha_of_bytes machine.memory whole) (alone letter valid)))
 acts pages program_mode actions.TakeLetter machine effect valid whole is =
     let text = alpha_of machine.memory in
-    subst LeavesWhole (sym is)
-    (text_set machine.memory (take 23 text) whole (All-take IsByte 23 text (alpha_of_bytes machine.memory whole)))
-acts pages program_mode actions.ClearAlpha machine effect valid whole is =
-    subst LeavesWhole (sym is) (text_set machine.memory [] whole (All-nil IsByte))
-acts pages program_mode action machine effect valid whole is = subst LeavesWhole (sym is) whole
+    rw is (text_set machine.memory (take 23 text) whole (All-take IsByte 23 text (alpha_of_bytes machine.memory whole)))
+acts pages program_mode actions.ClearAlpha machine effect valid whole is = rw is (text_set machine.memory [] whole (All-nil IsByte))
+acts pages program_mode action machine effect valid whole is = rw is whole
 
 -- A KEY. Its code is a byte.
 code_small : (key : Key) → code_of key < 256
@@ -180,22 +143,7 @@ code_small key = omega arith
 
 told : (key : Key) (input : Input) (s : CalculatorState) → IsWholeCalculator s → IsWholeInput input
     → IsWholeCalculator (with_key_accepted key input s)
-told key input s whole is = record {
-  nut = record {
-    processor = record {
-      abc = record { a = whole.nut.processor.abc.a; b = whole.nut.processor.abc.b; c = whole.nut.processor.abc.c };
-      m = whole.nut.processor.m;
-      n = whole.nut.processor.n;
-      g = whole.nut.processor.g;
-      returns = whole.nut.processor.returns;
-    };
-    memory = whole.nut.memory;
-    pages = whole.nut.pages;
-    key = code_small key;
-  };
-  most = whole.most;
-  input = is;
-}
+told key input s whole is = search (rules, code_small)
 
 acted : (s : CalculatorState) (effect : Made) → IsWholeCalculator s → LeavesWhole effect → MadeWhole (after_outcome s effect)
 acted s (Ok left) whole is = line_left s left whole is
@@ -203,24 +151,18 @@ acted s (Err refusal) whole is = tt
 
 makes : (s : CalculatorState) (key : Key) (press : Option Pressed) (made : Result CalculatorState CalculatorRefusal)
     → IsWholeCalculator s → IfSome press IsWholePress → KeyMakes s key press made → MadeWhole made
-makes s key None made whole valid is = subst MadeWhole (sym is) tt
+makes s key None made whole valid is = rw is tt
 makes s key (Some press) made whole valid is =
     by_refusal (key_refusal s) made
     ((effect : Made) × Acts s.nut.pages press.input.program_mode press.action (machine_of s) effect
     × (made ≡ after_outcome (with_key_accepted key press.input s) effect)) is
     (λ none goes.
-    subst MadeWhole (sym goes.2)
-    (acted (with_key_accepted key press.input s) goes.0 (told key press.input s whole valid.1)
+    rw goes.2 (acted (with_key_accepted key press.input s) goes.0 (told key press.input s whole valid.1)
     (acts s.nut.pages press.input.program_mode press.action (machine_of s) goes.0 valid.0 (memory_of s whole) goes.1)))
 
 module _ (keys : KeyLeavesWhole) where
   pub press_whole : PressLeavesWhole
-  press_whole key s t refusal whole is =
-      let flags = is.0 in
-      let made = is.2 in
-      let of =
-      makes s key (press_of s key flags) made whole (keys s.input key (activity_of s.mode) flags whole.input) is.3 in
-      subst IsWholeCalculator (sym is.4.0) (becomes_whole made s whole of)
+  press_whole key s t refusal whole is = search (rules, makes, becomes_whole)
 
   -- What it stores can be encoded in bytes.
   stores_inner : (action : Action) → IsWholeAction action → StoresInner action
@@ -233,5 +175,4 @@ module _ (keys : KeyLeavesWhole) where
   press_inner (Some press) valid = stores_inner press.action valid.0
 
   pub one_key : KeyHasOneOutcome → WholeKeyHasOneOutcome
-  one_key outcomes key s whole =
-      outcomes key s (λ flags has. press_inner (press_of s key flags) (keys s.input key (activity_of s.mode) flags whole.input))
+  one_key outcomes key s whole = search (rules, press_inner)

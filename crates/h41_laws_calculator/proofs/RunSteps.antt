@@ -1,5 +1,5 @@
 -- Steps in turn and runs, if each step has an outcome.
-use Rattle.std.proofs.Common.{◌≡◌, ℕ, zero, suc, ◌+◌, Bool, true, false, Option, Some, None, refl, sym, subst, arith, zero-add}
+use Rattle.std.proofs.Common.{◌≡◌, ℕ, zero, suc, ◌+◌, Bool, true, false, Option, Some, None, refl, arith, zero-add, rules}
 use Rattle.std.specs.Prelude.{nat_lt}
 use Rattle.std.proofs.lemmas.Bool.Decides.{nat_tests}
 use Rattle.h41_xrom.specs.declared.refusal.CalculatorRefusal.{CalculatorRefusal}
@@ -20,7 +20,7 @@ some_made : (made : ℕ) → nat_lt 0 (made + 1) ≡ true
 some_made made = grind (arith, nat_tests)
 
 behind_one : (made : ℕ) (t : BenchState) (stop : Option Stop) → stop_at t ≡ stop → stop_after (nat_lt 0 (made + 1)) t ≡ stop
-behind_one made t stop is = subst (λ (behind : Bool). stop_after behind t ≡ stop) (sym (some_made made)) is
+behind_one made t stop is = rw (some_made made) is
 
 -- Steps in turn, and a run, that exist.
 pub record Stepped (count : ℕ) (s : BenchState) : Type 0 where
@@ -42,14 +42,11 @@ module _ (refusals : StepHasOneRefusal) (states : AcceptedStepHasOneState) where
       let rest =
       more (with_calculator next.answer s) (λ made t steps. leads (suc made) t (None, accepted, (next.answer, next.right, steps))) in
       record { t = rest.t; refusal = rest.refusal; steps = (None, accepted, (next.answer, next.right, rest.steps)) }
-  stepped_by count more s leads (Some why) refused =
-      record { t = s; refusal = Some why; steps = (Some why, refused, (refl, refl)) }
+  stepped_by count more s leads (Some why) refused = record { t = s; refusal = Some why; steps = (Some why, refused, (refl, refl)) }
 
   pub stepped : (count : ℕ) (s : BenchState) → LeadsToRegisters s → Stepped count s
   stepped zero s leads = record { t = s; refusal = None; steps = (refl, refl) }
-  stepped (suc count) s leads =
-      let why = refusals s.calculator in
-      stepped_by count (stepped count) s leads why.answer why.right
+  stepped (suc count) s leads = let why = refusals s.calculator in stepped_by count (stepped count) s leads why.answer why.right
 
   module _ (same_refusal : StepRefusalIsDetermined) (same_step : StepIsDetermined) where
     -- So many steps were made, and as many remain.
@@ -89,19 +86,10 @@ module _ (refusals : StepHasOneRefusal) (states : AcceptedStepHasOneState) where
         let on = goes_on limit made s t so_far stop running in
         record { t = t; made = made; why = _; run = ends_at_limit limit made s t on at }
     run_from (suc left) limit made s t sum leads running so_far stop =
-        let why = refusals t.calculator in
-        run_by left limit made (run_from left) s t sum leads running so_far stop why.answer why.right
-
-    idle_run : (limit : ℕ) (s : BenchState) → is_idle s.calculator.mode ≡ true → Run limit s s 0 Idle
-    idle_run limit s idle = record {
-      steps = (refl, refl);
-      stops = idle;
-      first = λ other under _. absurd (omega (arith, under));
-      least = λ fewer u other under _ _. absurd (omega (arith, under));
-    }
+        let why = refusals t.calculator in run_by left limit made (run_from left) s t sum leads running so_far stop why.answer why.right
 
     run_if : (idle : Bool) (limit : ℕ) (s : BenchState) → is_idle s.calculator.mode ≡ idle → LeadsToRegisters s → Ran limit s
-    run_if true limit s idle leads = record { t = s; made = 0; why = Idle; run = idle_run limit s idle }
+    run_if true limit s idle leads = record { t = s; made = 0; why = Idle; run = search rules }
     run_if false limit s running leads = run_from limit limit 0 s s (zero-add limit) leads running (made_none limit s) refl
 
     pub ran : (limit : ℕ) (s : BenchState) → LeadsToRegisters s → Ran limit s

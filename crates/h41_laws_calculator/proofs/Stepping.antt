@@ -1,5 +1,5 @@
 -- The result of a step, or why it is refused.
-use Rattle.std.proofs.Common.{◌≡◌, Option, Some, None, Result, Ok, Err, MatchOption, refl, ap, ◌∙◌, subst}
+use Rattle.std.proofs.Common.{◌≡◌, Option, Some, None, Result, Ok, Err, MatchOption, refl, rules}
 use Rattle.std.specs.Prelude.{option_map}
 use Rattle.std.specs.Result.{result_err}
 use Rattle.h41_focal.specs.declared.refusal.FocalRefusal.{FocalRefusal}
@@ -15,21 +15,18 @@ use Rattle.h41_focal.specs.OutsideCalls as sources
 use Rattle.h41_xrom.specs.declared.refusal.CalculatorRefusal.{CalculatorRefusal}
 use Rattle.h41_xrom.specs.declared.refusal.CalculatorRefusal.TheVariants.{Word}
 use Rattle.h41_laws_words.specs.HasOne.{HasOne}
-use Rattle.h41_laws_words.proofs.Answering.{Has}
+use Rattle.h41_laws_words.proofs.Answering.{Has, has_one}
 use Rattle.h41_laws_words.specs.WordAnswers.{AcceptedWordHasOneChange, HasRegisters}
 use Rattle.h41_laws_calculator.specs.CalculatorAnswers.{AcceptedStepHasOneState, StepHasOneOutcome, StepHasOneRefusal, StepLeaves}
 use Rattle.h41_laws_calculator.specs.LineEnds.{LineHasOneEnd}
-use Rattle.h41_laws_calculator.proofs.Chosen.{alone}
+use Rattle.h41_laws_calculator.proofs.Chosen.{alone, made_of, same_pair}
 
--- A state and a refusal as a pair.
+-- A refusal and a state as a pair.
 abbrev Left : Type 0
 Left = Option CalculatorRefusal × CalculatorState
 
 abbrev left : Option CalculatorRefusal → CalculatorState → Left
 left why t = (why, t)
-
-same_left : (x y : Left) → x.0 ≡ y.0 → x.1 ≡ y.1 → x ≡ y
-same_left x y p q = ap (λ (why : Option CalculatorRefusal). left why x.1) p ∙ ap (λ (t : CalculatorState). left y.0 t) q
 
 not_refused : (why : Option WordRefusal) → None ≡ option_map Word why → why ≡ None
 not_refused None is = refl
@@ -40,14 +37,10 @@ not_both why is = cc
 
 module _ (ends : LineHasOneEnd) where
   here : (s : CalculatorState) → Has (CarriesHere sources.Program s)
-  here s =
-      let ended = ends sources.Program s.nut.pages (machine_of s) in
-      record { answer = ended.answer; right = ended.right }
+  here s = let ended = ends sources.Program s.nut.pages (machine_of s) in record { answer = ended.answer; right = ended.right }
 
   line_refusal : (s : CalculatorState) → Has (RefusesLine s)
-  line_refusal s =
-      let ended = here s in
-      record { answer = option_map of_line (result_err ended.answer); right = (ended.answer, ended.right, refl) }
+  line_refusal s = made_of (λ found. option_map of_line (result_err found)) (here s)
 
   refusal_in : (mode : Mode) (s : CalculatorState) → Has (RefusesStepIn mode s)
   refusal_in modes.Idle s = line_refusal s
@@ -55,9 +48,7 @@ module _ (ends : LineHasOneEnd) where
   refusal_in (modes.Micro caller) s = alone (option_map Word (refused s.nut))
 
   pub one_refusal : StepRefusalIsDetermined → StepHasOneRefusal
-  one_refusal determined s =
-      let found = refusal_in s.mode s in
-      record { answer = found.answer; right = found.right; only = λ other again. determined s other found.answer again found.right }
+  one_refusal determined s = has_one (refusal_in s.mode s) (determined s)
 
   -- A line that is not refused has an end.
   line_behind : (s : CalculatorState) (end : Result lines.Left FocalRefusal) → CarriesHere sources.Program s end
@@ -77,9 +68,7 @@ module _ (ends : LineHasOneEnd) where
         record { answer = after_word caller s change.answer; right = (change.right, refl) }
 
     pub one_state : StepIsDetermined → AcceptedStepHasOneState
-    one_state determined s has none =
-        let found = state_in s.mode s has none in
-        record { answer = found.answer; right = found.right; only = λ other again. determined s other found.answer again found.right }
+    one_state determined s has none = has_one (state_in s.mode s has none) (determined s)
 
 -- Both as a pair.
 module _ (refusals : StepHasOneRefusal) (states : AcceptedStepHasOneState) where
@@ -90,13 +79,10 @@ module _ (refusals : StepHasOneRefusal) (states : AcceptedStepHasOneState) where
       → ((t : CalculatorState) → Leaves s why t → t ≡ answer)
       → ((other : Option CalculatorRefusal) → RefusesStep s other → other ≡ why)
       → (other : Left) → StepLeaves s other → other ≡ left why answer
-  only_by s why answer one same other leaves =
-      let is : other.0 ≡ why = same other.0 leaves.0 in
-      same_left other (left why answer) is (one other.1 (subst (λ (o : Option CalculatorRefusal). Leaves s o other.1) is leaves.1))
+  only_by s why answer one same other leaves = search (rules, same_pair)
 
   outcome_by : (s : CalculatorState) → HasRegisters s.nut.processor → (why : Option CalculatorRefusal) → RefusesStep s why
-      → ((other : Option CalculatorRefusal) → RefusesStep s other → other ≡ why)
-      → HasOne (StepLeaves s)
+      → ((other : Option CalculatorRefusal) → RefusesStep s other → other ≡ why) → HasOne (StepLeaves s)
   outcome_by s has None refuses same =
       let state = states s has refuses in
       record { answer = left None state.answer; right = (refuses, state.right); only = only_by s None state.answer state.only same }

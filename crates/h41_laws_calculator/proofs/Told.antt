@@ -1,5 +1,5 @@
 -- The next step has exactly one description.
-use Rattle.std.proofs.Common.{◌≡◌, ℕ, Bool, true, false, List, ◌++◌, codes, Result, MatchBool, refl, ap, ◌∙◌}
+use Rattle.std.proofs.Common.{◌≡◌, ℕ, Bool, true, false, List, ◌++◌, codes, Result, MatchBool, refl}
 use Rattle.h41_breakpoints.specs.declared.location.Location.{Location}
 use Rattle.h41_breakpoints.specs.declared.location.Location.TheVariants.{Line, Word}
 use Rattle.h41_debug.specs.Positions.{location_of, position_text}
@@ -12,6 +12,7 @@ use Rattle.h41_program.specs.declared.refusal.ProgramRefusal.{ProgramRefusal}
 use Rattle.h41_ram.specs.RegisterMap.{RegisterMap, is_sound}
 use Rattle.h41_xrom.specs.Calculator.{CalculatorState}
 use Rattle.h41_laws_words.specs.HasOne.{HasOne}
+use Rattle.h41_laws_calculator.proofs.Chosen.{one_made}
 use Rattle.h41_laws_calculator.specs.ProgramAnswers.{PositionHasOne}
 use Rattle.h41_laws_calculator.specs.BenchOutcomes.{StateHasOneText}
 
@@ -20,13 +21,7 @@ module _ (lines : PositionHasOne LineAt) where
       → HasOne (λ text. MatchBool sound
       ((answer : Result PlacedLine ProgramRefusal) × LineAt pages memory at answer × (text ≡ line_or_unknown answer))
       (text ≡ unknown_text))
-  told_if true pages memory at =
-      let line = lines pages memory at in
-      record {
-        answer = line_or_unknown line.answer;
-        right = (line.answer, line.right, refl);
-        only = λ other is. is.2 ∙ ap line_or_unknown (line.only is.0 is.1);
-      }
+  told_if true pages memory at = one_made line_or_unknown (lines pages memory at)
   told_if false pages memory at = record { answer = unknown_text; right = refl; only = λ other is. is }
 
   told_at : (location : Location) (s : CalculatorState) → HasOne (TellsAt location s)
@@ -36,10 +31,4 @@ module _ (lines : PositionHasOne LineAt) where
       record { answer = text.answer; right = text.right; only = text.only }
 
   pub one_told : StateHasOneText
-  one_told s =
-      let next = told_at (location_of s.calculator) s.calculator in
-      record {
-        answer = position_text s ++ codes " " ++ next.answer;
-        right = (next.answer, next.right, refl);
-        only = λ other is. is.2 ∙ ap (λ (text : List ℕ). position_text s ++ codes " " ++ text) (next.only is.0 is.1);
-      }
+  one_told s = one_made (λ (text : List ℕ). position_text s ++ codes " " ++ text) (told_at (location_of s.calculator) s.calculator)

@@ -1,14 +1,13 @@
 -- Memory whose program is changed remains well-formed.
-use Rattle.std.proofs.Common.{◌≡◌, ℕ, ◌+◌, ◌-◌, ◌*◌, ◌/◌, ◌%◌, ◌<◌, ◌≤◌, Bool, true, false, List, [], ◌∷◌, ◌++◌, map, length, replicate}
-use Rattle.std.proofs.Common.{slice_set, if◌then◌else◌, Option, Some, None, Result, Ok, Err, inl, inr, refl, sym, subst, ◌∙◌, ap, arith}
-use Rattle.std.specs.Prelude.{◌&&◌, nat_lt, nat_le, All, ◌==◌, is_some}
+use Rattle.std.proofs.Common.{◌≡◌, ℕ, ◌+◌, ◌-◌, ◌*◌, ◌/◌, ◌<◌, ◌≤◌, Bool, true, false, List, [], ◌∷◌, ◌++◌, map, length, rules}
+use Rattle.std.proofs.Common.{slice_set, if◌then◌else◌, Option, Some, None, Result, Ok, Err, inl, inr, refl, sym, ◌∙◌, ap, arith}
+use Rattle.std.specs.Prelude.{nat_lt, All, ◌&&◌, is_some}
 use Rattle.std.specs.List.{flat_map}
 use Rattle.std.specs.Bool.{then_some}
 use Rattle.std.specs.Option.{unwrap_or}
 use Rattle.std.proofs.lemmas.Bool.{and_parts, cases_Bool, leb-true, ltb-true}
 use Rattle.std.proofs.lemmas.List.Elements.{All-append, All-cons, All-head, All-map, All-nil, All-replicate, All-set, All-tail}
-use Rattle.h41_codes.specs.ByteGrammar.{IsLine, IsOperand, IsText, label_byte, link_high, link_low, mark_bits, operand_byte, spelling}
-use Rattle.h41_codes.specs.ByteGrammar.{indirect_byte, text_bytes}
+use Rattle.h41_codes.specs.ByteGrammar.{IsLine, IsOperand, IsText, label_byte, operand_byte, spelling, indirect_byte, text_bytes}
 use Rattle.h41_codes.specs.Codes.{branch_code, character_code, function_code, name_function_code, parameter_function_code}
 use Rattle.h41_codes.specs.Codes.{register_function_code}
 use Rattle.h41_codes.specs.declared.characters.Character.{Character}
@@ -29,22 +28,19 @@ use Rattle.h41_codes.specs.declared.line.Operand.{Operand}
 use Rattle.h41_codes.specs.declared.line.Operand.TheVariants.{Direct, Indirect}
 use Rattle.h41_digits.specs.Register.{IsRegister}
 use Rattle.h41_program.proofs.Inner.{KeepsInner, before_inner, changed_inner, closed_inner, loaded_inner}
-use Rattle.h41_program.specs.Edits.{EditGives, LoadGives, LoadsBehind, before_end, close_behind, has_line_at, is_open, lines_of}
-use Rattle.h41_program.specs.Edits.{load_outcome, loaded_of, memory_with_answer, with_last_end, without_end}
-use Rattle.h41_program.specs.Lines.{is_number}
-use Rattle.h41_program.specs.Packing.{filler, gap, packed_lines, packing, written_end}
+use Rattle.h41_program.specs.Edits.{EditGives, LoadGives, LoadsBehind, before_end, close_behind, lines_of, has_line_at}
+use Rattle.h41_program.specs.Edits.{load_outcome, memory_with_answer, without_end}
+use Rattle.h41_program.specs.Packing.{gap, packed_lines, packing}
 use Rattle.h41_program.specs.ProgramBytes.{final_position, program_bytes}
 use Rattle.h41_program.specs.ProgramLaws.{IsInner}
 use Rattle.h41_program.specs.ProgramLines.{LinesFrom, Reads}
-use Rattle.h41_program.specs.Rewriting.{end_after, free_register, program_register, rewritten_register, with_program_bytes}
-use Rattle.h41_program.specs.Rewriting.{with_program_lines}
+use Rattle.h41_program.specs.Rewriting.{end_after, free_register, rewritten_register, with_program_bytes, with_program_lines}
 use Rattle.h41_program.specs.Size.{moved_curtain, moved_end, moved_statistics, resized_c, resized_register, size_outcome, with_size}
 use Rattle.h41_program.specs.declared.listed_line.ListedLine.{ListedLine}
 use Rattle.h41_program.specs.declared.refusal.ProgramRefusal.{ProgramRefusal}
-use Rattle.h41_program.specs.declared.refusal.ProgramRefusal.TheVariants.{NoRoom, SizeTooLarge, BrokenProgram}
-use Rattle.h41_ram.specs.NamedRegisters.{data_address, data_of, size_of}
-use Rattle.h41_ram.specs.RegisterMap.{RegisterMap, c_address, c_of, curtain_of, end_of, is_final_end, is_sound, main_start}
-use Rattle.h41_ram.specs.RegisterMap.{register_at, sound_constant, constant_of, three_digits, top_of, with_three_places, zeros}
+use Rattle.h41_ram.specs.NamedRegisters.{data_address, size_of}
+use Rattle.h41_ram.specs.RegisterMap.{RegisterMap, c_address, c_of, curtain_of, end_of, is_sound}
+use Rattle.h41_ram.specs.RegisterMap.{register_at, three_digits, top_of, with_three_places, zeros}
 use Rattle.h41_laws_words.proofs.Registers.{digit_at, register_set, zeros_register}
 use Rattle.h41_laws_calculator.specs.WholeMemory.{AreBytes, IsWholeMemory}
 use Rattle.h41_laws_calculator.proofs.Bytes.{IsByte, alone, chosen, of_text, register_of}
@@ -103,37 +99,23 @@ pub spelled : (line : Line) → IsLine line → AreBytes (spelling line)
 spelled lines.Null valid = alone 0x00 (omega arith)
 spelled (lines.LocalLabel label) valid = alone (0x01 + label) (omega (arith, valid))
 spelled (lines.Number text) valid = number_spelled text
-spelled (lines.Named function name) valid =
-    All-cons IsByte (name_function_code function) (text_bytes name) (name_small function) (text_spelled 15 name (omega arith) valid)
-spelled (lines.Register function register) valid =
-    alone (register_function_code function + register) (register_small function register valid)
+spelled (lines.Named function name) valid = search (rules, All-cons, name_small, text_spelled)
+spelled (lines.Register function register) valid = search (rules, alone, register_small)
 spelled (lines.Plain function) valid = alone (function_code function) (code_small function)
-spelled (lines.WithOperand function operand) valid =
-    two (parameter_function_code function) (operand_byte operand) (parameter_small function) (operand_small operand valid)
-spelled (lines.Module number entry) valid =
-    two (0xA0 + number / 4) (number % 4 * 64 + entry) (omega (arith, valid.0)) (omega (arith, valid.1))
-spelled (lines.BranchIndirect branch register) valid =
-    two 0xAE (indirect_byte branch register) (omega arith) (indirect_small branch register valid)
+spelled (lines.WithOperand function operand) valid = search (rules, two, parameter_small, operand_small)
+spelled (lines.Module number entry) valid = search (rules, two)
+spelled (lines.BranchIndirect branch register) valid = search (rules, two, indirect_small)
 spelled (lines.ShortGoTo label distance) valid = two (0xB1 + label) distance (omega (arith, valid.0)) valid.1
-spelled (lines.GlobalLabel link key name) valid =
-    All-cons IsByte (link_high link) (link_low link ∷ (0xF1 + length name) ∷ key ∷ name) (omega (arith, valid.0))
-    (All-cons IsByte (link_low link) ((0xF1 + length name) ∷ key ∷ name) (omega arith)
-    (All-cons IsByte (0xF1 + length name) (key ∷ name) (omega (arith, valid.2.fits))
-    (All-cons IsByte key name valid.1 (of_text name valid.2.bytes))))
-spelled (lines.End link marks) valid =
-    three (link_high link) (link_low link) (mark_bits marks) (omega (arith, valid.0)) (omega arith) (omega (arith, valid.1))
-spelled (lines.FinalEnd link marks) valid =
-    three (link_high link) (link_low link) (0x20 + mark_bits marks) (omega (arith, valid.0)) (omega arith) (omega (arith, valid.1))
-spelled (lines.BranchTo branch distance backwards label) valid =
-    three (branch_code branch + distance / 256) (distance % 256) (label_byte backwards label) (branch_small branch distance valid.0)
-    (omega arith) (label_small backwards label valid.1)
+spelled (lines.GlobalLabel link key name) valid = search (rules, All-cons, of_text)
+spelled (lines.End link marks) valid = search (rules, three)
+spelled (lines.FinalEnd link marks) valid = search (rules, three)
+spelled (lines.BranchTo branch distance backwards label) valid = search (rules, three, branch_small, label_small)
 spelled (lines.Text text) valid = text_spelled 15 text (omega arith) valid
 
 -- The bytes of programs.
 gap_bytes : (line : Line) (others : List Line) → AreBytes (gap line others)
 gap_bytes line [] = All-nil IsByte
-gap_bytes line (next ∷ others) =
-    chosen AreBytes (is_number line && is_number next) (0x00 ∷ []) [] (λ both. alone 0x00 (omega arith)) (λ other. All-nil IsByte)
+gap_bytes line (next ∷ others) = search (rules, chosen, alone, All-nil)
 
 packed_bytes : (program : List Line) → All IsInner program → AreBytes (packed_lines program)
 packed_bytes [] inner = All-nil IsByte
@@ -143,44 +125,25 @@ packed_bytes (line ∷ others) inner =
     (packed_bytes others (All-tail IsInner line others inner))
 
 pub packing_bytes : (program : List Line) → All IsInner program → AreBytes (packing program)
-packing_bytes program inner =
-    let packed = packed_lines program in
-    let nulls : List ℕ = replicate (filler (length packed)) 0x00 in
-    All-append IsByte (packed ++ nulls) written_end
-    (All-append IsByte packed nulls (packed_bytes program inner) (All-replicate IsByte (filler (length packed)) 0 (omega arith)))
-    (three 0xC0 0x00 0x20 (omega arith) (omega arith) (omega arith))
+packing_bytes program inner = search (rules, All-append, packed_bytes, All-replicate, three)
 
 -- MEMORY WITH ANOTHER PROGRAM. Three digits of a register.
 three_small : (register : List ℕ) (place : ℕ) → IsRegister 14 register → three_digits register place < 4096
-three_small register place valid =
-    let low = digit_at register place valid in
-    let middle = digit_at register (place + 1) valid in
-    let high = digit_at register (place + 2) valid in
-    omega (arith, low, middle, high)
+three_small register place valid = search (rules, digit_at)
 
 pub three_set : (register : List ℕ) (place number : ℕ) → IsRegister 14 register → number < 4096
     → IsRegister 14 (with_three_places register place number)
-three_set register place number valid small =
-    let one = slice_set register place (number % 16) in
-    let other = slice_set one (place + 1) (number / 16 % 16) in
-    register_set other (place + 2) (number / 256)
-    (register_set one (place + 1) (number / 16 % 16) (register_set register place (number % 16) valid (omega arith)) (omega arith))
-    (omega (arith, small))
+three_set register place number valid small = search (rules, register_set)
 
 free_valid : (memory : RegisterMap) (address : ℕ) → IsWholeMemory memory → IsRegister 14 (free_register memory address)
-free_valid memory address whole =
-    chosen (IsRegister 14) (nat_lt address (end_of memory)) (register_at memory address) zeros (λ below. read memory address whole)
-    (λ is. zeros_register)
+free_valid memory address whole = search (rules, chosen, read, zeros_register)
 
 rewritten_valid : (memory : RegisterMap) (bytes : List ℕ) (address : ℕ) → IsWholeMemory memory → AreBytes bytes
     → IsRegister 14 (rewritten_register memory bytes address)
 rewritten_valid memory bytes address whole all =
-    let below = curtain_of memory - 1 - address in
-    chosen (IsRegister 14) (nat_lt address (end_after memory bytes)) (free_register memory address)
-    (if nat_lt address (curtain_of memory) then program_register bytes below else register_at memory address)
-    (λ free. free_valid memory address whole)
-    (λ other. chosen (IsRegister 14) (nat_lt address (curtain_of memory)) (program_register bytes below) (register_at memory address)
-    (λ program. register_of bytes (7 * below) all) (λ above. read memory address whole))
+    chosen (IsRegister 14) (nat_lt address (end_after memory bytes)) _ _ (λ free. free_valid memory address whole)
+    (λ other. chosen (IsRegister 14) (nat_lt address (curtain_of memory)) _ _
+    (λ program. register_of bytes (7 * (curtain_of memory - 1 - address)) all) (λ above. read memory address whole))
 
 pub rewritten : (memory : RegisterMap) (bytes : List ℕ) → IsWholeMemory memory → AreBytes bytes
     → IsWholeMemory (with_program_bytes memory bytes)
@@ -203,10 +166,7 @@ Made (Err refusal) = Unit {0}
 
 written_lines : (memory : RegisterMap) (program : List Line) → IsWholeMemory memory → All IsInner program
     → Made (with_program_lines memory program)
-written_lines memory program whole inner =
-    chosen Made (nat_lt (curtain_of memory) (main_start + length (packing program) / 7)) (Err NoRoom)
-    (Ok (with_program_bytes memory (packing program))) (λ none. tt)
-    (λ room. rewritten memory (packing program) whole (packing_bytes program inner))
+written_lines memory program whole inner = search (rules, chosen, rewritten, packing_bytes)
 
 answered : {A : Type 0} (answer : A) (made : Result RegisterMap ProgramRefusal) → Made made → Kept (memory_with_answer answer made)
 answered answer (Ok memory) whole = whole
@@ -217,24 +177,19 @@ listed_inner : (memory : RegisterMap) (change : ListedLine → List Line) (liste
     → LinesFrom memory 0 listed → All IsInner (flat_map change listed)
 listed_inner memory change listed keeps from = elim (cases_Bool (is_sound memory)) [
   | inl sound ↦ changed_inner (program_bytes memory) (final_position memory) change keeps 0 listed (from.sound sound)
-  | inr lost ↦ subst (λ (all : List ListedLine). All IsInner (flat_map change all)) (sym (from.lost lost)) (All-nil IsInner)
+  | inr lost ↦ rw (from.lost lost) (All-nil IsInner)
 ]
 
 pub edited : (memory : RegisterMap) (change : ℕ → ListedLine → List Line) (at : ℕ)
     (outcome : Result (RegisterMap × Unit {0}) ProgramRefusal)
     → ((position : ℕ) → KeepsInner (change position)) → IsWholeMemory memory → EditGives memory change at outcome → Kept outcome
 edited memory change at outcome keeps whole (inl found) =
-    let position = found.0.position in
     let listed = found.2.0 in
-    let program = flat_map (change position) listed in
-    subst (λ (of : Result (RegisterMap × Unit {0}) ProgramRefusal). Kept of) (sym found.2.2)
-    (chosen (λ (of : Result (RegisterMap × Unit {0}) ProgramRefusal). Kept of) (is_some (before_end listed) && has_line_at position listed)
-    (memory_with_answer tt (with_program_lines memory program)) (Err BrokenProgram)
-    (λ has. answered tt (with_program_lines memory program)
-    (written_lines memory program whole (listed_inner memory (change position) listed (keeps position) found.2.1)))
-    (λ none. tt))
-edited memory change at outcome keeps whole (inr none) =
-    subst (λ (of : Result (RegisterMap × Unit {0}) ProgramRefusal). Kept of) (sym none.1) tt
+    rw found.2.2 (chosen (λ (of : Result (RegisterMap × Unit {0}) ProgramRefusal). Kept of)
+    (is_some (before_end listed) && has_line_at found.0.position listed) _ _
+    (λ has. answered tt _ (written_lines memory (flat_map (change found.0.position) listed) whole
+    (listed_inner memory (change found.0.position) listed (keeps found.0.position) found.2.1))) (λ none. tt))
+edited memory change at outcome keeps whole (inr none) = rw none.1 tt
 
 -- The lines before .END.
 own_inner : (memory : RegisterMap) (listed before : List ListedLine) → LinesFrom memory 0 listed → before_end listed ≡ Some before
@@ -249,29 +204,18 @@ load_of : (memory : RegisterMap) (before : List ListedLine) (loaded : Option (Li
     → All IsInner (lines_of before) → ((program : List Line) → loaded ≡ Some program → All IsInner program)
     → Kept (load_outcome memory before loaded)
 load_of memory before None whole own all = tt
-load_of memory before (Some program) whole own all =
-    let closed = with_last_end (lines_of before) in
-    answered (length (packed_lines closed)) (with_program_lines memory (closed ++ program))
-    (written_lines memory (closed ++ program) whole
-    (All-append IsInner closed program (closed_inner (lines_of before) own) (all program refl)))
+load_of memory before (Some program) whole own all = search (rules, answered, written_lines, All-append, closed_inner)
 
 given_inner : (bytes : List ℕ) (t : Bool) (given : List ListedLine) (program : List Line) → Reads bytes (length bytes) 0 given
     → (if t then Some (without_end (lines_of given)) else None) ≡ Some program → All IsInner program
-given_inner bytes true given program reads is =
-    let same : without_end (lines_of given) ≡ program = cc in
-    subst (λ (all : List Line). All IsInner all) same (loaded_inner bytes (length bytes) 0 given reads)
-given_inner bytes false given program reads is =
-    absurd (let never : ◌≡◌ {A = Option (List Line)} None (Some program) = is in cc)
+given_inner bytes true given program reads is = search (rules, loaded_inner)
+given_inner bytes false given program reads is = search rules
 
 loads_behind : (memory : RegisterMap) (bytes : List ℕ) (listed : List ListedLine) (own : Option (List ListedLine))
     (outcome : Result (RegisterMap × ℕ) ProgramRefusal) → IsWholeMemory memory → LinesFrom memory 0 listed → before_end listed ≡ own
     → LoadsBehind memory bytes own outcome → Kept outcome
-loads_behind memory bytes listed None outcome whole from is loads =
-    subst (λ (of : Result (RegisterMap × ℕ) ProgramRefusal). Kept of) (sym loads) tt
-loads_behind memory bytes listed (Some before) outcome whole from is loads =
-    subst (λ (of : Result (RegisterMap × ℕ) ProgramRefusal). Kept of) (sym loads.2)
-    (load_of memory before (loaded_of bytes loads.0) whole (own_inner memory listed before from is)
-    (λ program same. given_inner bytes _ loads.0 program loads.1 same))
+loads_behind memory bytes listed None outcome whole from is loads = rw loads tt
+loads_behind memory bytes listed (Some before) outcome whole from is loads = search (rules, load_of, own_inner, given_inner)
 
 pub loaded : (memory : RegisterMap) (bytes : List ℕ) (outcome : Result (RegisterMap × ℕ) ProgramRefusal) → IsWholeMemory memory
     → LoadGives memory bytes outcome → Kept outcome
@@ -281,13 +225,7 @@ loaded memory bytes outcome whole gives = loads_behind memory bytes gives.0 (bef
 close_of : (memory : RegisterMap) (own : Option (List ListedLine)) (listed : List ListedLine) → IsWholeMemory memory
     → LinesFrom memory 0 listed → before_end listed ≡ own → Kept (close_behind memory own)
 close_of memory None listed whole from is = tt
-close_of memory (Some before) listed whole from is =
-    let program = lines_of before in
-    chosen (λ (of : Result (RegisterMap × Unit {0}) ProgramRefusal). Kept of) (is_open program)
-    (memory_with_answer tt (with_program_lines memory (with_last_end program))) (Ok (memory, tt))
-    (λ opens. answered tt (with_program_lines memory (with_last_end program))
-    (written_lines memory (with_last_end program) whole (closed_inner program (own_inner memory listed before from is))))
-    (λ other. whole)
+close_of memory (Some before) listed whole from is = search (rules, chosen, answered, written_lines, closed_inner, own_inner)
 
 pub closed : (memory : RegisterMap) (listed : List ListedLine) → IsWholeMemory memory → LinesFrom memory 0 listed
     → Kept (close_behind memory (before_end listed))
@@ -299,21 +237,7 @@ record Bounds (memory : RegisterMap) : Type 0 where
   pub curtain : curtain_of memory ≤ top_of memory
 
 bounds : (memory : RegisterMap) → is_sound memory ≡ true → Bounds memory
-bounds memory sound =
-    let constant = constant_of memory == sound_constant in
-    let above = nat_le main_start (end_of memory) in
-    let below = nat_lt (end_of memory) (curtain_of memory) in
-    let inside = nat_le (curtain_of memory) (top_of memory) in
-    let order = above && below && inside in
-    let final = is_final_end (register_at memory (end_of memory)) in
-    let first : (constant && order) ≡ true = (and_parts (constant && order) final sound).0 in
-    let second : order ≡ true = (and_parts constant order first).1 in
-    let third = and_parts (above && below) inside second in
-    let fourth = and_parts above below third.0 in
-    record {
-      end = ltb-true (end_of memory) (curtain_of memory) fourth.1;
-      curtain = leb-true (curtain_of memory) (top_of memory) third.1;
-    }
+bounds memory sound = search (rules, and_parts, ltb-true, leb-true)
 
 data_valid : (memory : RegisterMap) (t : Bool) (register : List ℕ) → IsRegister 14 register
     → IsRegister 14 (unwrap_or (then_some t register) zeros)
@@ -322,12 +246,9 @@ data_valid memory false register valid = zeros_register
 
 resized_valid : (memory : RegisterMap) (size address : ℕ) → IsWholeMemory memory → IsRegister 14 (resized_register memory size address)
 resized_valid memory size address whole =
-    let moved = register_at memory (address + end_of memory - moved_end memory size) in
     let number = address - moved_curtain memory size in
-    let kept = unwrap_or (data_of memory number) zeros in
-    chosen (IsRegister 14) (nat_lt address (moved_end memory size)) (free_register memory address)
-    (if nat_lt address (moved_curtain memory size) then moved else kept) (λ free. free_valid memory address whole)
-    (λ other. chosen (IsRegister 14) (nat_lt address (moved_curtain memory size)) moved kept
+    chosen (IsRegister 14) (nat_lt address (moved_end memory size)) _ _ (λ free. free_valid memory address whole)
+    (λ other. chosen (IsRegister 14) (nat_lt address (moved_curtain memory size)) _ _
     (λ program. read memory (address + end_of memory - moved_end memory size) whole)
     (λ above. data_valid memory (nat_lt number (size_of memory)) (register_at memory (data_address memory number))
     (read memory (data_address memory number) whole)))
@@ -348,13 +269,4 @@ resized memory size whole sound =
     (λ address. resized_valid memory size address whole)
 
 pub sized : (memory : RegisterMap) (size : ℕ) → IsWholeMemory memory → is_sound memory ≡ true → Kept (size_outcome memory size)
-sized memory size whole sound =
-    let moved : Result (RegisterMap × Unit {0}) ProgramRefusal =
-    if nat_lt (moved_curtain memory size + end_of memory) (main_start + curtain_of memory)
-    then Err NoRoom
-    else Ok (with_size memory size, tt) in
-    chosen (λ (of : Result (RegisterMap × Unit {0}) ProgramRefusal). Kept of) (nat_lt size (length memory.main)) moved (Err SizeTooLarge)
-    (λ fits. chosen (λ (of : Result (RegisterMap × Unit {0}) ProgramRefusal). Kept of)
-    (nat_lt (moved_curtain memory size + end_of memory) (main_start + curtain_of memory)) (Err NoRoom) (Ok (with_size memory size, tt))
-    (λ none. tt) (λ room. resized memory size whole sound))
-    (λ many. tt)
+sized memory size whole sound = search (rules, chosen, resized)

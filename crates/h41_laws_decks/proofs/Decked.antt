@@ -1,5 +1,6 @@
 -- What decks print.
-use Rattle.std.proofs.Common.{◌≡◌, List, [], ◌∷◌, flat_map, Ok, Err, refl, ap, ◌∙◌, subst}
+use Rattle.h41_laws_calculator.proofs.Chosen.{one_made}
+use Rattle.std.proofs.Common.{◌≡◌, List, [], ◌∷◌, flat_map, Ok, Err, refl, ap}
 use Rattle.h41_commands.specs.Items.{Spelled, commands}
 use Rattle.h41_debug.specs.Bench.{BenchState, start}
 use Rattle.h41_deck.specs.Answers.{Answer, printed_text}
@@ -26,8 +27,7 @@ module _ (replies : ReplyHasOneAnswer) where
       let same = reply.only (is.0, answer) is.1 in
       let state = ap (λ (left : BenchState × Answer). left.0) same in
       let first = ap (λ (left : BenchState × Answer). left.1) same in
-      let more = rest.only answers (subst (λ (from : BenchState). AnswersInTurn items from answers) state is.2) in
-      ap (λ (one : Answer). one ∷ answers) first ∙ ap (λ (others : List Answer). reply.answer.1 ∷ others) more
+      let more = rest.only answers (rw (← state) is.2) in cc
 
   only_none : (s : BenchState) (other : List Answer) → AnswersInTurn [] s other → other ≡ []
   only_none s [] is = refl
@@ -47,15 +47,9 @@ module _ (replies : ReplyHasOneAnswer) where
   pub one_text : DeckHasOneText
   one_text registers deck bound rests =
       let all = one_list (commands (lines deck)) (start registers) rests in
-      let answers : AnswersDeck registers deck all.answer = record { bound = bound; answered = all.right } in (
-        record {
-          answer = flat_map printed_text all.answer;
-          right = (all.answer, answers, refl);
-          only = λ other is. is.2 ∙ ap (flat_map printed_text) (all.only is.0 is.1.answered);
-        },
-        record {
-          answer = outcome_of all.answer;
-          right = (all.answer, answers, refl);
-          only = λ other is. is.2 ∙ ap outcome_of (all.only is.0 is.1.answered);
-        },
-      )
+      let answers : HasOne (AnswersDeck registers deck) = record {
+        answer = all.answer;
+        right = record { bound = bound; answered = all.right };
+        only = λ other is. all.only other is.answered;
+      } in
+      (one_made (flat_map printed_text) answers, one_made outcome_of answers)

@@ -1,5 +1,6 @@
 -- The meaning of the lines of a program's block.
-use Rattle.std.proofs.Common.{◌≡◌, ◌≢◌, ℕ, suc, List, [], ◌∷◌, Option, Some, None, Result, Ok, Err, inl, inr, refl, sym, ap, ◌∙◌, subst}
+use Rattle.h41_laws_calculator.proofs.Chosen.{one_made}
+use Rattle.std.proofs.Common.{◌≡◌, ◌≢◌, ℕ, suc, List, [], ◌∷◌, Option, Some, None, Result, Ok, Err, inl, inr, refl, sym, ap, ◌∙◌, rules}
 use Rattle.std.specs.Option.{option_map}
 use Rattle.std.proofs.lemmas.Option.{none-some, same_Some}
 use Rattle.h41_codes.specs.ByteLaws.{CanonicalOnce}
@@ -15,12 +16,12 @@ use Rattle.h41_commands.specs.declared.refusal.LineRefusal.TheVariants.{BadText}
 use Rattle.h41_program.specs.Packing.{packed_lines}
 use Rattle.h41_text.proofs.Reading.{reading_again}
 use Rattle.h41_text.specs.LineReading.{HasText, IsTextOf}
-use Rattle.h41_text.specs.LineText.{line_text}
 use Rattle.h41_text.specs.TextLaws.{OneLineOfText}
 use Rattle.h41_text.specs.private.TextParts.{candidate_line}
 use Rattle.h41_laws_words.specs.HasOne.{HasOne}
 use Rattle.h41_laws_decks.specs.DeckAnswers.{ProgramBlockMeansOne}
 use Rattle.h41_laws_decks.proofs.Said.{given}
+use Rattle.h41_text.specs.LineText.{line_text}
 
 -- Whether a line has a text.
 null_either : (line : Line) → Either (line ≢ Null)
@@ -28,10 +29,7 @@ null_either Null = inr (λ differs. differs refl)
 null_either line = inl (λ same. cc)
 
 has_either : (line : Line) → Either (HasText line)
-has_either line = elim (both (valid_either line) (null_either line)) [
-  | inl has ↦ inl (record { valid = has.0; shown = has.1 })
-  | inr lacks ↦ inr (λ has. lacks (has.valid, has.shown))
-]
+has_either line = search (rules, both, valid_either, null_either)
 
 module _ (once : CanonicalOnce) where
   -- Whether a text is that of the only line that can have it.
@@ -46,8 +44,7 @@ module _ (once : CanonicalOnce) where
   HasLine text = (line : Line) × IsTextOf text line
 
   read_as : (text : List ℕ) (line : Line) → IsTextOf text line → option_map canonical_line (candidate_line text) ≡ Some line
-  read_as text line of =
-      ap (λ t. option_map canonical_line (candidate_line t)) (sym of.same) ∙ reading_again line of.has ∙ ap Some of.shortest
+  read_as text line of = search (rules, reading_again)
 
   found_either : (text : List ℕ) (found : Option Line) → candidate_line text ≡ found → Either (HasLine text)
   found_either text None is = inr (λ has. none-some has.0 (ap (option_map canonical_line) (sym is) ∙ read_as text has.0 has.1))
@@ -55,7 +52,7 @@ module _ (once : CanonicalOnce) where
     | inl of ↦ inl (canonical_line line, of)
     | inr lacks ↦ inr (λ has.
         let same = same_Some (canonical_line line) has.0 (ap (option_map canonical_line) (sym is) ∙ read_as text has.0 has.1) in
-        lacks (subst (λ (l : Line). IsTextOf text l) (sym same) has.1))
+        lacks (rw same has.1))
   ]
 
   line_either : (text : List ℕ) → Either (HasLine text)
@@ -76,16 +73,12 @@ module _ (once : CanonicalOnce) where
         → other ≡ with_more (line ∷ []) more.answer
     only_said number byte rest texts line of more other (inl bad) = absurd (bad.0 line of)
     only_said number byte rest texts line of more other (inr said) =
-        let same = one (byte ∷ rest) said.1.0 line said.1.1 of in
-        said.4 ∙ ap (λ (lines : List Line). with_more lines said.2) (said.1.2 ∙ ap (λ (l : Line). l ∷ []) same)
-        ∙ ap (λ (lines : Lines). with_more (line ∷ []) lines) (more.only said.2 said.3)
+        let same = one (byte ∷ rest) said.1.0 line said.1.1 of in let others = more.only said.2 said.3 in cc (said.4, said.1.2)
 
     only_empty : (number : ℕ) (texts : List (List ℕ)) (more : HasOne (SayLines (suc number) texts)) (other : Lines)
         → SayLines number ([] ∷ texts) other → other ≡ with_more [] more.answer
     only_empty number texts more other (inl bad) = absurd bad.0
-    only_empty number texts more other (inr said) =
-        said.4 ∙ ap (λ (lines : List Line). with_more lines said.2) said.1
-        ∙ ap (λ (lines : Lines). with_more [] lines) (more.only said.2 said.3)
+    only_empty number texts more other (inr said) = let others = more.only said.2 said.3 in cc (said.4, said.1)
 
     one_said : (number byte : ℕ) (rest : List ℕ) (texts : List (List ℕ)) → Either (HasLine (byte ∷ rest))
         → HasOne (SayLines (suc number) texts) → HasOne (SayLines number ((byte ∷ rest) ∷ texts))
@@ -109,17 +102,10 @@ module _ (once : CanonicalOnce) where
           right = inr ([], refl, more.answer, more.right, refl);
           only = only_empty number texts more;
         }
-    all_said number ((byte ∷ rest) ∷ texts) =
-        one_said number byte rest texts (line_either (byte ∷ rest)) (all_said (suc number) texts)
+    all_said number ((byte ∷ rest) ∷ texts) = one_said number byte rest texts (line_either (byte ∷ rest)) (all_said (suc number) texts)
 
     -- The meaning of a block.
     pub one_meaning : ProgramBlockMeansOne
     one_meaning kinds.Bytes values = given (Ok values)
     one_meaning kinds.Text source =
-        let said = all_said 1 (texts_of source) in
-        record {
-          answer = and_then said.answer (λ lines. Ok (packed_lines lines));
-          right = (said.answer, said.right, refl);
-          only = λ other is.
-              is.2 ∙ ap (λ (lines : Lines). and_then lines (λ lines. Ok (packed_lines lines))) (said.only is.0 is.1);
-        }
+        one_made (λ (lines : Lines). and_then lines (λ lines. Ok (packed_lines lines))) (all_said 1 (texts_of source))

@@ -1,5 +1,6 @@
 -- The contents of views and blocks.
-use Rattle.std.proofs.Common.{◌≡◌, ◌⊎◌, ℕ, List, Option, Some, None, Result, Ok, Err, flat_map, inl, inr, refl, sym, ap, ◌∙◌, arith}
+use Rattle.h41_laws_calculator.proofs.Chosen.{one_made}
+use Rattle.std.proofs.Common.{◌≡◌, ◌⊎◌, ℕ, List, Option, Some, None, Result, Ok, Err, flat_map, inl, inr, refl, ap, arith, rules}
 use Rattle.std.specs.Prelude.{IsSome, option_map}
 use Rattle.h41_asm.specs.Assembly.{Assembles}
 use Rattle.h41_asm.specs.AssemblyLaws.{HasFault, HasWords, HasWordsOrFault, NeverBoth, WordsAreDetermined}
@@ -26,21 +27,12 @@ given other = record { answer = other; right = refl; only = λ answer is. is }
 pub one_view : OneList → ListsAreDetermined → DisplayHasOneText → ViewHasOneText
 one_view lists same display views.Lines s =
     let all = lists s.calculator.nut.ram 0 in
-    record {
-      answer = Ok (flat_map listed_line all.lines);
-      right = (flat_map listed_line all.lines, (all.lines, all.from, refl), refl);
-      only = λ other is.
-          is.2
-          ∙ ap (λ (text : List ℕ). Ok text)
-          (is.1.2 ∙ ap (flat_map listed_line) (same s.calculator.nut.ram 0 is.1.0 all.lines is.1.1 all.from));
-    }
-one_view lists same display views.Display s =
-    let shown = display s.calculator in
-    record {
-      answer = Ok (line_of shown.answer);
-      right = (shown.answer, shown.right, refl);
-      only = λ other is. is.2 ∙ ap (λ (text : List ℕ). Ok (line_of text)) (shown.only is.0 is.1);
-    }
+    one_made (λ (text : List ℕ). Ok text) (one_made (flat_map listed_line) (record {
+      answer = all.lines;
+      right = all.from;
+      only = λ other is. same s.calculator.nut.ram 0 other all.lines is all.from;
+    }))
+one_view lists same display views.Display s = one_made (λ (text : List ℕ). Ok (line_of text)) (display s.calculator)
 one_view lists same display view s = given _
 
 -- The refusal for an error.
@@ -66,19 +58,15 @@ module _ (either : HasWordsOrFault) (never : NeverBoth) (same : WordsAreDetermin
   only_words : (source : List ℕ) (origin : ℕ) (words : List ℕ) → Assembles source origin words → (other : Result (List ℕ) LineRefusal)
       → SourceMakes source origin other → other ≡ Ok words
   only_words source origin words spells (Ok more) is = ap (λ (of : List ℕ). Ok of) (same source origin more words is spells)
-  only_words source origin words spells (Err refusal) is =
-      absurd (never source origin (words, spells) (has_fault source origin refusal is))
+  only_words source origin words spells (Err refusal) is = search (rules, has_fault)
 
   only_refusal : (source : List ℕ) (origin : ℕ) (refusal : LineRefusal) → source_refusal source origin ≡ Some refusal
       → (other : Result (List ℕ) LineRefusal) → SourceMakes source origin other → other ≡ Err refusal
-  only_refusal source origin refusal refused (Ok words) is =
-      absurd (never source origin (words, is) (has_fault source origin refusal refused))
-  only_refusal source origin refusal refused (Err why) is =
-      ap (λ (of : LineRefusal). Err of) (same_some why refusal (sym is ∙ refused))
+  only_refusal source origin refusal refused (Ok words) is = search (rules, has_fault)
+  only_refusal source origin refusal refused (Err why) is = search (rules, same_some)
 
   one_source : (source : List ℕ) (origin : ℕ) → HasWords source origin ⊎ HasFault source origin → HasOne (SourceMakes source origin)
-  one_source source origin (inl words) =
-      record { answer = Ok words.0; right = words.1; only = only_words source origin words.0 words.1 }
+  one_source source origin (inl words) = record { answer = Ok words.0; right = words.1; only = only_words source origin words.0 words.1 }
   one_source source origin (inr fault) =
       let refusal = refusal_of told (assembly_fault source origin) fault in
       record { answer = Err refusal.0; right = refusal.1; only = only_refusal source origin refusal.0 refusal.1 }
@@ -87,10 +75,5 @@ module _ (either : HasWordsOrFault) (never : NeverBoth) (same : WordsAreDetermin
   one_block Words page values = given (Ok values)
   one_block Image page values = given (Ok values)
   one_block Asm page source =
-      let made = one_source source (page_address page) (either source (page_address page) (omega arith)) in
-      record {
-        answer = and_then made.answer words_of_page;
-        right = (made.answer, made.right, refl);
-        only = λ other is.
-            is.2 ∙ ap (λ (of : Result (List ℕ) LineRefusal). and_then of words_of_page) (made.only is.0 is.1);
-      }
+      one_made (λ (of : Result (List ℕ) LineRefusal). and_then of words_of_page)
+      (one_source source (page_address page) (either source (page_address page) (omega arith)))

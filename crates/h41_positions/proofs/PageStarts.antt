@@ -1,10 +1,10 @@
 -- The start of a page's programs.
-use Rattle.std.proofs.Common.{◌≡◌, ℕ, ◌+◌, ◌<◌, ◌≤◌, true, false, List, length, Option, Some, None, refl, sym, ap, subst, ◌∙◌, arith}
+use Rattle.std.proofs.Common.{◌≡◌, ℕ, ◌+◌, ◌<◌, ◌≤◌, false, List, length, Option, Some, None, refl, sym, ap, ◌∙◌, arith, ◌⊎◌}
 use Rattle.std.proofs.Common.{inl, inr}
 use Rattle.std.specs.Prelude.{is_some, slice_index}
 use Rattle.std.specs.Option.{option_or}
 use Rattle.std.proofs.lemmas.Bool.{cases_lt, true≢false}
-use Rattle.h41_positions.specs.PageLines.{AnswersLabel, HasNoLine, IsAmong, LinesIn, Reaches, StartsAt, is_page_end}
+use Rattle.h41_positions.specs.PageLines.{AnswersLabel, IsAmong, LinesIn, Reaches, StartsAt, is_page_end}
 use Rattle.h41_program.specs.Numbering.{number_in}
 use Rattle.h41_program.specs.ProgramLaws.{EachIsListed}
 use Rattle.h41_program.specs.Searches.{label_in, position_of}
@@ -14,19 +14,6 @@ use Rattle.h41_program.specs.Sources.{HasFirst, bytes_source}
 use Rattle.h41_walk.specs.Searches.{AnswersProgram, Otherwise, label_position}
 use Rattle.h41_walk.specs.Searches as walk
 
--- A list that contains the line of an offset reaches the offset.
-pub found_reaches : (code : List ℕ) (at begin : ℕ) (first : Found) (lines : List ListedLine)
-    → HasFirst (bytes_source code) at first → begin ≤ at → LinesIn code begin lines → is_some (number_in first.listed.position lines) ≡ true
-    → Reaches code at begin
-found_reaches code at begin first lines is before from has = record {
-  before = before;
-  first = first.listed;
-  lines = lines;
-  stands = is.first;
-  from = from;
-  has = has;
-}
-
 -- A list that does not contain it does not reach the offset.
 pub lost_reaches : (code : List ℕ) (at begin : ℕ) (first : Found)
     → HasFirst (bytes_source code) at first
@@ -34,9 +21,7 @@ pub lost_reaches : (code : List ℕ) (at begin : ℕ) (first : Found)
     → Reaches code at begin → ⊥
 lost_reaches code at begin first is lost reaches =
     let same : reaches.first ≡ first.listed = is.one reaches.first reaches.stands in
-    let has : is_some (number_in first.listed.position reaches.lines) ≡ true =
-    subst (λ (line : ListedLine). is_some (number_in line.position reaches.lines) ≡ true) same reaches.has in
-    true≢false (sym has ∙ sym (lost reaches.lines reaches.from))
+    true≢false (sym (rw same at reaches.has) ∙ sym (lost reaches.lines reaches.from))
 
 -- One of the offsets so far.
 abbrev pub IsSoFar : List ℕ → ℕ → ℕ → Type 0
@@ -56,20 +41,21 @@ none_kept code begins at = record {
 }
 
 module _ (code begins : List ℕ) (at count least : ℕ) (inside : count < length begins) (kept : IsKept code begins at count least) where
+  last_or_before : (begin : ℕ) → IsSoFar begins (count + 1) begin → IsSoFar begins count begin ⊎ (slice_index begins count ≡ begin)
+  last_or_before begin so_far = elim (cases_lt so_far.0 count) [
+    | inl sooner ↦ inl (so_far.0, sooner, so_far.2, so_far.3)
+    | inr here ↦ let same : count ≡ so_far.0 = omega (arith, so_far.1, here) in inr (rw same so_far.3)
+  ]
+
   -- The next offset is taken.
   pub taken : slice_index begins count < least → Reaches code at (slice_index begins count)
       → IsKept code begins at (count + 1) (slice_index begins count)
   taken below reaches = record {
     most = let most = kept.most in omega (arith, below, most);
     own = λ low. ((count, omega arith, inside, refl), reaches);
-    each = λ begin so_far again. elim (cases_lt so_far.0 count) [
-      | inl sooner ↦
-          let more = kept.each begin (so_far.0, sooner, so_far.2, so_far.3) again in
-          omega (arith, more, below)
-      | inr here ↦
-          let same : so_far.0 ≡ count = omega (arith, so_far.1, here) in
-          let is : slice_index begins count ≡ begin = ap (λ (k : ℕ). slice_index begins k) (sym same) ∙ so_far.3 in
-          omega (arith, is)
+    each = λ begin so_far again. elim (last_or_before begin so_far) [
+      | inl before ↦ let more = kept.each begin before again in omega (arith, more, below)
+      | inr is ↦ omega (arith, is)
     ];
   }
 
@@ -77,15 +63,10 @@ module _ (code begins : List ℕ) (at count least : ℕ) (inside : count < lengt
   pub passed : (Reaches code at (slice_index begins count) → least ≤ slice_index begins count) → IsKept code begins at (count + 1) least
   passed late = record {
     most = kept.most;
-    own = λ low.
-        let own = kept.own low in
-        ((own.0.0, omega (arith, own.0.1), own.0.2, own.0.3), own.1);
-    each = λ begin so_far again. elim (cases_lt so_far.0 count) [
-      | inl sooner ↦ kept.each begin (so_far.0, sooner, so_far.2, so_far.3) again
-      | inr here ↦
-          let same : so_far.0 ≡ count = omega (arith, so_far.1, here) in
-          let is : slice_index begins count ≡ begin = ap (λ (k : ℕ). slice_index begins k) (sym same) ∙ so_far.3 in
-          subst (λ (n : ℕ). least ≤ n) is (late (subst (λ (n : ℕ). Reaches code at n) (sym is) again))
+    own = λ low. let own = kept.own low in ((own.0.0, omega (arith, own.0.1), own.0.2, own.0.3), own.1);
+    each = λ begin so_far again. elim (last_or_before begin so_far) [
+      | inl before ↦ kept.each begin before again
+      | inr is ↦ rw (← is) (late (rw (← is) at again))
     ];
   }
 
@@ -96,18 +77,11 @@ module _ (code begins : List ℕ) (at count least : ℕ) (all : length begins �
 
   pub least_starts : least ≤ at → StartsAt code begins at least
   least_starts low =
-      let own = kept.own low in
-      inl ((own.0.0, own.0.2, own.0.3), own.1, each_among)
+      let own = kept.own low in inl ((own.0.0, own.0.2, own.0.3), own.1, each_among)
 
   pub none_starts : (least ≤ at → ⊥) → StartsAt code begins at at
   none_starts late =
-      inr (
-        (λ begin among reaches.
-            let more = each_among begin among reaches in
-            let before = reaches.before in
-            late (omega (arith, more, before))),
-        refl,
-      )
+      inr ((λ begin among reaches. let more = each_among begin among reaches in late (omega (arith, more, reaches.before))), refl)
 
 -- An answer for a label is the one for the lines from the program's start.
 none_or : (first second : Option ListedLine) (found : Option ℕ) → position_of first ≡ None → found ≡ position_of second

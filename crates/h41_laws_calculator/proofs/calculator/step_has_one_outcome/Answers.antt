@@ -1,3 +1,4 @@
+use Rattle.std.proofs.Common.{rules}
 use Rattle.h41_laws_calculator.proofs.Stepping.{one_outcome, one_refusal, one_state}
 use Rattle.h41_laws_calculator.proofs.calculator.step_has_one_outcome.Goals as goal
 
@@ -8,6 +9,4 @@ pub returns-clause-state : goal.returns-clause-state
 returns-clause-state c = one_state c.line_has_one_end.ensures c.word_has_one_answer.ensures.accepted c.step_is_determined.ensures.state
 
 pub returns-clause-outcome : goal.returns-clause-outcome
-returns-clause-outcome c =
-    one_outcome (one_refusal c.line_has_one_end.ensures c.step_is_determined.ensures.refusal)
-    (one_state c.line_has_one_end.ensures c.word_has_one_answer.ensures.accepted c.step_is_determined.ensures.state)
+returns-clause-outcome c = search (rules, one_outcome, one_refusal, one_state)

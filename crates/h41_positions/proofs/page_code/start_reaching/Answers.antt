@@ -1,7 +1,7 @@
-use Rattle.std.proofs.Common.{◌<◌, ℕ, ◌+◌, length, sym, subst, ◌∙◌, arith}
+use Rattle.std.proofs.Common.{◌<◌, length, sym, ◌∙◌, arith}
 use Rattle.std.specs.Prelude.{slice_index}
 use Rattle.h41_positions.specs.PageLines.{is_page_end}
-use Rattle.h41_positions.proofs.PageStarts.{IsKept, found_reaches, least_starts, lost_reaches, none_kept, none_starts, passed, taken}
+use Rattle.h41_positions.proofs.PageStarts.{IsKept, least_starts, lost_reaches, none_kept, none_starts, passed, taken}
 use Rattle.h41_positions.proofs.page_code.start_reaching.Goals as goal
 use Rattle.h41_positions.proofs.page_code.start_reaching.Goals.{then-begin-least+then-has_line, else-begin-least}
 use Rattle.h41_positions.proofs.page_code.start_reaching.Goals.{else-begin-least-via-then-begin-least+else-has_line}
@@ -16,27 +16,27 @@ loop-index-preserved c =
     let begins = c.args.begins.now in
     let at = c.args.at in
     let index = c.loop-index.index in
-    let least = c.loop-index.least in
-    let kept : IsKept code begins at index least = c.loop-index.invariant in
+    let kept : IsKept code begins at index c.loop-index.least = c.loop-index.invariant in
     let inside : index < length begins = omega (arith, c.loop-index-test.true, c.loop-index.auto.index-end) in
+    let begin = slice_index begins index in
     elim c.if-begin-least.branch [
       | then-begin-least+then-has_line w ↦
-          let all = c.each_is_listed.ensures.lines is_page_end code (length code) (slice_index begins index) in
-          let low : slice_index begins index < least = w.if-begin-least.true in
-          subst (λ (n : ℕ). IsKept code begins at (index + 1) n) (sym w.least-is)
-          (taken code begins at index least inside kept low
-          (found_reaches code at (slice_index begins index) c.args.first all.0 c.requires.first
-          (let most = kept.most in omega (arith, low, most)) all.1 (sym (w.has_line.ensures all.0 all.1) ∙ w.if-has_line.true)))
+          let all = c.each_is_listed.ensures.lines is_page_end code (length code) begin in
+          rw w.least-is (taken code begins at index c.loop-index.least inside kept w.if-begin-least.true (record {
+            before = let most = kept.most in omega (arith, w.if-begin-least.true, most);
+            first = c.args.first.listed;
+            lines = all.0;
+            stands = c.requires.first.first;
+            from = all.1;
+            has = sym (w.has_line.ensures all.0 all.1) ∙ w.if-has_line.true;
+          }))
       | else-begin-least w ↦
-          subst (λ (n : ℕ). IsKept code begins at (index + 1) n) (sym w.least-is)
-          (elim w.else-begin-least.branch [
+          rw w.least-is (passed code begins at index c.loop-index.least inside kept (λ reaches. elim w.else-begin-least.branch [
             | else-begin-least-via-then-begin-least+else-has_line v ↦
-                passed code begins at index least inside kept (λ reaches.
-                absurd (lost_reaches code at (slice_index begins index) c.args.first c.requires.first
-                (λ lines from. sym v.if-has_line.false ∙ v.has_line.ensures lines from) reaches))
-            | else-begin-least-via-else-begin-least v ↦
-                passed code begins at index least inside kept (λ reaches. omega (arith, v.if-begin-least.false))
-          ])
+                absurd (lost_reaches code at begin c.args.first c.requires.first
+                (λ lines from. sym v.if-has_line.false ∙ v.has_line.ensures lines from) reaches)
+            | else-begin-least-via-else-begin-least v ↦ omega (arith, v.if-begin-least.false)
+          ]))
     ]
 
 pub returns-then-least-at : goal.returns-then-least-at

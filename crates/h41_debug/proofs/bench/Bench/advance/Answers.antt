@@ -1,12 +1,12 @@
-use Rattle.std.proofs.Common.{◌≡◌, ◌<◌, ◌≤◌, ◌-◌, ℕ, Option, Some, None, rules, arith, sym, subst, ◌∙◌}
+use Rattle.std.proofs.Common.{◌≡◌, ◌<◌, ◌≤◌, ◌-◌, ℕ, Option, Some, None, rules, arith, sym, ◌∙◌}
 use Rattle.std.specs.Prelude.{MatchOption}
 use Rattle.h41_xrom.specs.declared.refusal.CalculatorRefusal.{CalculatorRefusal}
 use Rattle.h41_debug.specs.Bench.{BenchState}
 use Rattle.h41_debug.specs.private.Advancing.{IsRefused, MakesSteps}
 use Rattle.h41_debug.specs.declared.run.Stop.TheVariants.{Refused}
+use Rattle.h41_debug.proofs.Advancing.{less_left}
 use Rattle.h41_debug.proofs.Runs.{Ended, ends_at_refusal, ends_limited, stops}
 use Rattle.h41_debug.proofs.CacheInTurn as cache
-use Rattle.h41_debug.specs.KeptInTurn.{refusal_of}
 use Rattle.h41_debug.specs.LabelledBench.{calculator_of}
 use Rattle.h41_debug.proofs.bench.Bench.advance.Goals as goal
 
@@ -14,17 +14,13 @@ use Rattle.h41_debug.proofs.bench.Bench.advance.Goals as goal
 module _ (limit from made : ℕ) (t : BenchState) (why : Option CalculatorRefusal)
     (ends : MatchOption why (from < made) (IsRefused limit made t)) where
   made_some : why ≡ None → from < made
-  made_some none = subst (λ (why : Option CalculatorRefusal). MatchOption why (from < made) (IsRefused limit made t)) none ends
+  made_some none = rw none at ends
 
   refused_by : (s : BenchState) (refusal : CalculatorRefusal) → MakesSteps limit made s t → why ≡ Some refusal
       → Ended limit made s t (Refused refusal)
   refused_by s refusal so_far is =
-      let refused : IsRefused limit made t refusal =
-      subst (λ (why : Option CalculatorRefusal). MatchOption why (from < made) (IsRefused limit made t)) is ends in
+      let refused : IsRefused limit made t refusal = rw is at ends in
       ends_at_refusal limit made s t refusal so_far refused.1 refused.0 refused.2
-
-less_left : (limit made now : ℕ) → made < limit → made < now → limit - now < limit - made
-less_left limit made now below more = omega (arith, below, more)
 
 below : (made limit : ℕ) → made ≤ limit → (made ≡ limit → ⊥) → made < limit
 below made limit most other = omega (arith, most, other)

@@ -17,8 +17,7 @@ module _ (none name : List ℕ) (empty : none ≡ []) (short : length name ≤ 5
 
   room_digits : (text more digits : List ℕ) → text ≡ none ++ name → more ≡ text ++ codes " " → length digits ≤ 5
       → length more + length digits ≤ 11
-  room_digits text more digits is next few =
-      rw (next, is, empty, length-append) (omega (arith, short, few))
+  room_digits text more digits is next few = rw (next, is, empty, length-append) (omega (arith, short, few))
 
 told : (s : BenchState) (m : Mode) (at : Location) (none name text more digits all : List ℕ) → none ≡ [] → text ≡ none ++ name
     → more ≡ text ++ codes " " → all ≡ more ++ digits → name ≡ mode_name m → m ≡ s.calculator.mode → digits ≡ location_digits at

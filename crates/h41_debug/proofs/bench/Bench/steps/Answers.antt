@@ -1,8 +1,7 @@
-use Rattle.std.proofs.Common.{◌≡◌, ◌+◌, Some, None, ap, arith, refl, subst}
-use Rattle.h41_debug.specs.Bench.{Steps}
+use Rattle.std.proofs.Common.{◌≡◌, ◌+◌, Some, None, ap, arith, refl}
 use Rattle.h41_debug.proofs.Runs.{refused_for, steps_left, steps_to_refusal}
 use Rattle.h41_debug.proofs.CacheInTurn as cache
-use Rattle.h41_debug.specs.KeptInTurn.{KeepsAfterSteps, refusal_of}
+use Rattle.h41_debug.specs.KeptInTurn.{refusal_of}
 use Rattle.h41_debug.specs.LabelledBench.{calculator_of}
 use Rattle.h41_debug.proofs.bench.Bench.steps.Goals as goal
 
@@ -11,12 +10,9 @@ loop-left-init g c = ((λ t refusal steps. steps), 0, omega arith, refl)
 
 pub returns-in-Refused-clause-steps : goal.returns-in-Refused-clause-steps
 returns-in-Refused-clause-steps g c =
-    let ended = refused_for c.loop-left.left c.advance-made.result.0 c.advance-made.new.self.state c.advance-made.result.1
-    c.in-Refused.refusal
-    c.advance-made.ensures.ends c.in-Refused.is in
+    let ended = refused_for _ _ c.advance-made.new.self.state _ _ c.advance-made.ensures.ends c.in-Refused.is in
     c.loop-left.invariant.0 c.advance-made.new.self.state (Some c.in-Refused.refusal)
-    (steps_to_refusal c.loop-left.left c.advance-made.result.0 c.loop-left.self.state
-    c.advance-made.new.self.state c.in-Refused.refusal ended.0 c.advance-made.ensures.steps ended.1)
+    (steps_to_refusal c.loop-left.left _ _ c.advance-made.new.self.state _ ended.0 c.advance-made.ensures.steps ended.1)
 
 pub loop-left-preserved : goal.loop-left-preserved
 loop-left-preserved g c = (
@@ -35,13 +31,11 @@ pub returns-clause-steps : goal.returns-clause-steps
 returns-clause-steps g c =
     let none : 0 ≡ c.loop-left.left = omega (arith, c.loop-left-test.false) in
     c.loop-left.invariant.0 c.loop-left.self.state None
-    (subst (λ n. Steps n c.loop-left.self.state c.loop-left.self.state None) none (refl, refl))
+    (rw (← none) (refl, refl))
 
 pub returns-in-Refused-clause-kept : goal.returns-in-Refused-clause-kept
 returns-in-Refused-clause-kept g c =
-    let ended = refused_for c.loop-left.left c.advance-made.result.0 c.advance-made.new.self.state c.advance-made.result.1
-    c.in-Refused.refusal
-    c.advance-made.ensures.ends c.in-Refused.is in (
+    let ended = refused_for _ _ c.advance-made.new.self.state _ _ c.advance-made.ensures.ends c.in-Refused.is in (
       c.loop-left.invariant.1 + c.advance-made.result.0,
       omega (arith, c.loop-left.invariant.2, ended.0),
       cache.tries_add c.loop-left.invariant.1 c.advance-made.result.0 (calculator_of c.args.self.now) (calculator_of c.loop-left.self)
@@ -53,4 +47,4 @@ returns-in-Refused-clause-kept g c =
 pub returns-clause-kept : goal.returns-clause-kept
 returns-clause-kept g c =
     let all : c.loop-left.invariant.1 ≡ c.args.count = omega (arith, c.loop-left-test.false, c.loop-left.invariant.2) in
-    subst (λ n. KeepsAfterSteps n (calculator_of c.args.self.now) (calculator_of c.loop-left.self)) all c.loop-left.invariant.3
+    rw (← all) c.loop-left.invariant.3

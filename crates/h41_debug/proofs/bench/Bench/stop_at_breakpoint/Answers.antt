@@ -14,5 +14,4 @@ returns-then-has_breakpoint g c =
     breaks c.args.self.now.state (rw c.location.ensures at (sym c.has_breakpoint.ensures ∙ c.if-has_breakpoint.true))
 
 pub returns : goal.returns
-returns g c =
-    goes_past c.args.self.now.state (rw c.location.ensures at (sym c.has_breakpoint.ensures ∙ c.if-has_breakpoint.false))
+returns g c = goes_past c.args.self.now.state (rw c.location.ensures at (sym c.has_breakpoint.ensures ∙ c.if-has_breakpoint.false))

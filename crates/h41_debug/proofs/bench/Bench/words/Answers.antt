@@ -1,17 +1,14 @@
-use Rattle.std.proofs.Common.{rules, ◌≡◌, ◌<◌, ◌≤◌, ◌+◌, ◌-◌, ℕ, Bool, true, false, if◌then◌else◌, None, arith, refl, sym, ap, subst, ◌∙◌}
+use Rattle.std.proofs.Common.{rules, ◌≡◌, ◌<◌, ◌≤◌, ◌+◌, ◌-◌, ℕ, Bool, true, false, if◌then◌else◌, None, arith, refl, sym, ap, ◌∙◌}
 use Rattle.h41_xrom.specs.declared.calculator.Caller.{Caller}
 use Rattle.h41_xrom.specs.declared.calculator.Mode.TheVariants.{Micro}
 use Rattle.h41_debug.specs.Bench.{BenchState}
-use Rattle.h41_debug.specs.private.Advancing.{MakesSteps}
 use Rattle.h41_debug.specs.private.Running.{stop_after}
 use Rattle.h41_breakpoints.specs.Breakpoints.{is_set}
 use Rattle.h41_debug.specs.Positions.{location_of}
-use Rattle.h41_debug.proofs.Advancing.{all_steps, clear_behind, ends_piece, next_fits, one_more, refused_piece, same, up_to}
+use Rattle.h41_debug.proofs.Advancing.{all_steps, clear_behind, ends_piece, less_left, next_fits, one_more, refused_piece, same, up_to}
 use Rattle.h41_breakpoints.proofs.Members.{none_set}
 use Rattle.h41_debug.proofs.CacheInTurn as cache
-use Rattle.h41_debug.specs.KeptInTurn.{KeepsAfterSteps}
 use Rattle.h41_debug.specs.LabelledBench.{calculator_of}
-use Rattle.h41_xrom.specs.LabelledCalculator.{LabelledCalculator}
 use Rattle.h41_debug.proofs.bench.Bench.words.Goals as goal
 use Rattle.h41_debug.proofs.bench.Bench.words.Goals.{else-watched-via-then-watched+else-has_breakpoint, else-watched-via-else-watched}
 
@@ -28,13 +25,9 @@ below_limit word until limit below most = omega (arith, below, most)
 behind_all : (from made until : ℕ) → from ≤ made → made < until → from < until
 behind_all from made until most behind = omega (arith, most, behind)
 
-less_left : (limit made now : ℕ) → made < limit → made < now → limit - now < limit - made
-less_left limit made now below more = omega (arith, below, more)
-
 pub returns-in-Ok-false-clause-steps : goal.returns-in-Ok-false-clause-steps
 returns-in-Ok-false-clause-steps g c =
-    ends_piece c.step_is_determined.ensures.refusal c.step_is_determined.ensures.state c.args.limit
-    c.args.from c.loop-word.word c.args.self.now.state c.loop-word.self.state c.step_word.new.self.state
+    ends_piece c.step_is_determined.ensures.refusal c.step_is_determined.ensures.state _ _ _ _ _ _
     c.loop-word.invariant.0 c.loop-word.invariant.3 (omega (arith, c.loop-made.invariant.4, c.loop-word.auto.word))
     (c.loop-word.invariant.1 c.loop-word-test.true) (omega (arith, c.loop-word-test.true, c.next_look-until.ensures.most))
     c.in-Ok-false.ensures.refusal c.in-Ok-false.ensures.change c.step_word.ensures.others
@@ -42,20 +35,19 @@ returns-in-Ok-false-clause-steps g c =
 pub loop-word-preserved : goal.loop-word-preserved
 loop-word-preserved g c =
     let kept = ap (λ (at : BenchState). at.breakpoints) c.step_word.ensures.others ∙ c.loop-word.invariant.3 in
-    let mode : c.step_word.new.self.state.calculator.mode ≡ Micro c.args.caller = rw c.in-Ok-true.field-0-test at
-    c.in-Ok-true.ensures.mode in
+    let mode : c.step_word.new.self.state.calculator.mode ≡ Micro c.args.caller =
+    rw c.in-Ok-true.field-0-test at c.in-Ok-true.ensures.mode in
     let free : c.args.watched ≡ false → is_set c.step_word.new.self.state.breakpoints
     (location_of c.step_word.new.self.state.calculator) ≡ false =
     λ unwatched.
     rw kept (sym (none_set c.args.self.now.state.breakpoints (location_of c.step_word.new.self.state.calculator)
     (c.requires.free unwatched))) in (
-      one_more c.step_is_determined.ensures.refusal c.step_is_determined.ensures.state c.args.limit
-          c.args.from c.loop-word.word c.args.self.now.state c.loop-word.self.state c.step_word.new.self.state
+      one_more c.step_is_determined.ensures.refusal c.step_is_determined.ensures.state _ _ _ _ _ _
           c.loop-word.invariant.0 (c.loop-word.invariant.1 c.loop-word-test.true)
           (omega (arith, c.loop-word-test.true, c.next_look-until.ensures.most))
           c.in-Ok-true.ensures.refusal c.in-Ok-true.ensures.change c.step_word.ensures.others,
       (λ more. between c.args.watched c.loop-made.made c.loop-word.word c.args.limit c.step_word.new.self.state _ c.args.caller free mode
-          c.loop-word.auto.word (subst (λ n. c.loop-word.word + 1 < n) c.next_look-until.ensures.look more)),
+          c.loop-word.auto.word (rw (← c.next_look-until.ensures.look) more)),
       mode,
       kept,
       (λ start begun. cache.one_more c.loop-word.word start (calculator_of c.loop-word.self) (calculator_of c.step_word.new.self)
@@ -71,22 +63,19 @@ loop-made-preserved g c =
     let free : is_set c.loop-word.self.state.breakpoints (location_of c.loop-word.self.state.calculator) ≡ false = elim
     c.else-watched.branch [
       | else-watched-via-then-watched+else-has_breakpoint w ↦
-          subst (λ at. is_set c.loop-word.self.state.breakpoints at ≡ false)
-          w.word_location.ensures (sym w.has_breakpoint.ensures ∙ w.if-has_breakpoint.false)
+          rw (← w.word_location.ensures) (sym w.has_breakpoint.ensures ∙ w.if-has_breakpoint.false)
       | else-watched-via-else-watched w ↦
           rw kept
           (sym (none_set c.args.self.now.state.breakpoints (location_of c.loop-word.self.state.calculator)
           (c.requires.free w.if-watched.false)))
     ] in (
-      subst (λ n. (start : BenchState) → MakesSteps c.args.limit c.args.from start c.args.self.now.state
-          → MakesSteps c.args.limit n start c.loop-word.self.state) all c.loop-word.invariant.0,
+      rw (← all) c.loop-word.invariant.0,
       clear_behind _ c.loop-word.self.state c.args.caller c.loop-word.invariant.2 free,
       c.loop-word.invariant.2,
       kept,
       omega (arith, c.loop-made.invariant.4, c.next_look-until.ensures.after),
       c.next_look-until.ensures.most,
-      subst (λ n. (start : LabelledCalculator) → KeepsAfterSteps c.args.from start (calculator_of c.args.self.now)
-          → KeepsAfterSteps n start (calculator_of c.loop-word.self)) all c.loop-word.invariant.4,
+      rw (← all) c.loop-word.invariant.4,
     )
 
 pub loop-made-init : goal.loop-made-init
@@ -94,13 +83,8 @@ loop-made-init g c =
     ((λ start begun. begun), c.requires.clear, c.requires.mode, refl, same _, up_to _ _ c.requires.below, (λ start begun. begun))
 
 pub loop-word-init : goal.loop-word-init
-loop-word-init g c = (
-  c.loop-made.invariant.0,
-  (λ below. c.loop-made.invariant.1),
-  c.loop-made.invariant.2,
-  c.loop-made.invariant.3,
-  c.loop-made.invariant.6,
-)
+loop-word-init g c =
+    (c.loop-made.invariant.0, (λ below. c.loop-made.invariant.1), c.loop-made.invariant.2, c.loop-made.invariant.3, c.loop-made.invariant.6)
 
 pub overflow_add-result : goal.overflow_add-result
 overflow_add-result g c = next_fits _ _ _ c.loop-word-test.true c.next_look-until.ensures.most c.ranges.limit
@@ -145,9 +129,9 @@ pub returns-then-has_breakpoint-clause-kept : goal.returns-then-has_breakpoint-c
 returns-then-has_breakpoint-clause-kept g c start begun =
     let all : c.loop-word.word ≡ c.next_look-until.result =
     omega (arith, c.loop-word-test.false, c.loop-word.auto.word-end, c.next_look-until.ensures.after) in
-    subst (λ n. KeepsAfterSteps n start (calculator_of c.loop-word.self)) all (c.loop-word.invariant.4 start begun)
+    rw (← all) (c.loop-word.invariant.4 start begun)
 
 pub returns-clause-kept : goal.returns-clause-kept
 returns-clause-kept g c start begun =
     let all : c.loop-made.made ≡ c.args.limit = omega (arith, c.loop-made-test.false, c.loop-made.invariant.5) in
-    subst (λ n. KeepsAfterSteps n start (calculator_of c.loop-made.self)) all (c.loop-made.invariant.6 start begun)
+    rw (← all) (c.loop-made.invariant.6 start begun)

@@ -3,6 +3,7 @@
 ghost use Rattle.std.specs.Prelude.{◌≡◌, ◌≢◌, ◌⊎◌, ◌≤◌, [], IfOk, OnOk, Err, Ok, true, false, None};
 ghost use Rattle.std.specs.Prelude.{Some};
 ghost use Rattle.std.specs.Io.KnownBytes.{Keeps};
+ghost use Rattle.h41_ends.specs.Ends as lines;
 ghost use Rattle.h41_ends.specs.InputLines.{CountsOn, IsStopped, IsTold, line_in, most_left};
 ghost use Rattle.h41_lines.specs.Words.{words_of};
 ghost use Rattle.h41_commands.specs.private.BlockReading.{HearsBlock, HearsTaken, ReadsBlock};
@@ -10,6 +11,7 @@ ghost use Rattle.h41_commands.specs.private.BlockReading.{ReadsTaken};
 ghost use Rattle.h41_commands.specs.private.TakenBlocks.{HasTaken};
 ghost use Rattle.h41_commands.specs.private.Entries.{what_is_spelled};
 ghost use Rattle.h41_commands.specs.Commands.{command_of, kind_of};
+ghost use Rattle.h41_commands.specs.Faults.{is_write_fault};
 ghost use Rattle.h41_commands.specs.FirstLines.{first_line, opens_block};
 ghost use Rattle.h41_commands.specs.private.ItemReading.{HearsFirst, LeavesFewer, ReadsFirst};
 ghost use Rattle.h41_commands.specs.private.ItemReading.{TellsFirst, kind_returned};
@@ -59,8 +61,7 @@ pub fn read_first_line<R: Talk<W>, W: Sink>(
     ensures kept { Keeps (W.contents writer.old) (W.contents writer.new) }
     ensures counted { CountsOn input.old input.new (R.given reader.old) (R.given reader.new) }
     ensures reader { result ≢ Err LineReadFault.ReadFault → R.failed reader.new ≡ false }
-    ensures writer { result ≢ Err LineReadFault.WriteFault → W.failed writer.new ≡ false }
-    ensures write_fault { result ≡ Err LineReadFault.WriteFault → W.failed writer.new ≡ true }
+    ensures writer { W.failed writer.new ≡ lines.is_write_fault result }
 {
     while input.next_line(reader, writer)? {
         if let Some(first) = first_line(input.line()) {
@@ -104,8 +105,7 @@ pub fn read_block<R: Talk<W>, W: Sink>(
     ensures kept { Keeps (W.contents writer.old) (W.contents writer.new) }
     ensures counted { CountsOn input.old input.new (R.given reader.old) (R.given reader.new) }
     ensures reader { result ≢ Err ItemFault.ReadFault → R.failed reader.new ≡ false }
-    ensures writer { result ≢ Err ItemFault.WriteFault → W.failed writer.new ≡ false }
-    ensures write_fault { result ≡ Err ItemFault.WriteFault → W.failed writer.new ≡ true }
+    ensures writer { W.failed writer.new ≡ is_write_fault result }
 {
     let command = block_command(first, input.line());
     let block = Block::of_kind(alloc, opened_kind(&command));
@@ -152,8 +152,7 @@ fn read_lines<R: Talk<W>, W: Sink>(
     ensures kept { Keeps (W.contents writer.old) (W.contents writer.new) }
     ensures counted { CountsOn input.old input.new (R.given reader.old) (R.given reader.new) }
     ensures reader { result ≢ Err ItemFault.ReadFault → R.failed reader.new ≡ false }
-    ensures writer { result ≢ Err ItemFault.WriteFault → W.failed writer.new ≡ false }
-    ensures write_fault { result ≡ Err ItemFault.WriteFault → W.failed writer.new ≡ true }
+    ensures writer { W.failed writer.new ≡ is_write_fault result }
 {
     let mut block = block;
     while input.next_line(reader, writer)? {

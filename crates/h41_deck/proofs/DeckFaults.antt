@@ -7,10 +7,12 @@ use Rattle.std.proofs.lemmas.Bool.{ltb-true}
 use Rattle.std.proofs.lemmas.List.{append-nil, length-take, take_all}
 use Rattle.h41_commands.proofs.FirstLines.{first_fault}
 use Rattle.h41_commands.specs.private.ItemReading.{ReadsFirst, ReadsNext}
+use Rattle.h41_commands.specs.Faults as items
 use Rattle.h41_commands.specs.Items.{Spelled, commands}
 use Rattle.h41_commands.specs.declared.fault.ItemFault.{ItemFault}
 use Rattle.h41_commands.specs.declared.fault.ItemFault.TheVariants as item
 use Rattle.h41_debug.specs.Bench.{BenchState, start}
+use Rattle.h41_ends.specs.Ends as reading
 use Rattle.h41_ends.specs.Ends.{most_bytes}
 use Rattle.h41_ends.specs.InputLines.{IsCounted, IsStopped, bytes_within}
 use Rattle.h41_ends.specs.declared.fault.LineReadFault.{LineReadFault}
@@ -21,9 +23,10 @@ use Rattle.h41_ends.specs.declared.source.Source as sources
 use Rattle.h41_ends.proofs.InputReading.{consumes-both, consumes-nothing, gives_too_many}
 use Rattle.h41_lines.specs.Lines.{lines}
 use Rattle.h41_deck.specs.Answers.{printed_text}
-use Rattle.h41_deck.specs.Deck.{AnswersInTurn, Deck, DeckEnds, FaultLeaves, WritesText}
+use Rattle.h41_deck.specs.Deck.{AnswersInTurn, Deck, DeckEnds, FaultLeaves, WritesText, is_of_write}
 use Rattle.h41_refusals.specs.Faults.{of_command, of_item, of_line}
 use Rattle.h41_deck.specs.Replies.{item_takes_memory}
+use Rattle.h41_deck.specs.private.Writing as answering
 use Rattle.h41_deck.specs.private.Writing.{Leaves}
 use Rattle.h41_deck.specs.private.AnsweredLines.{AnswersLines}
 use Rattle.h41_refusals.specs.declared.fault.CommandFault.{CommandFault}
@@ -232,25 +235,22 @@ module _ {R W : Type 0} (registers : ℕ) (source : sources.Ghosts R) (sink : si
     flushed = flushed;
     left = tt;
     passed = λ is. cc;
-    write_fault = λ is. cc;
     reader = λ other. reader;
-    writer = λ other. writer;
+    writer = writer;
   }
 
   -- Everything that an error leaves, by the stream that failed.
   pub failed : (first after : R) (old new : W) (fault : Fault) → FaultLeaves registers fault source sink first after old new
-      → (fault ≡ ReadFault → sink.flushed new ≡ true) → (fault ≡ WriteFault → sink.failed new ≡ true)
-      → (fault ≢ ReadFault → source.failed after ≡ false) → (fault ≢ WriteFault → sink.failed new ≡ false)
-      → AnswersLines registers (Err fault) source sink first after old new
-  failed first after old new fault left passed marked reader writer = record {
+      → (fault ≡ ReadFault → sink.flushed new ≡ true) → (fault ≢ ReadFault → source.failed after ≡ false)
+      → sink.failed new ≡ is_of_write fault → AnswersLines registers (Err fault) source sink first after old new
+  failed first after old new fault left passed reader writer = record {
     deck = tt;
     outcome = tt;
     flushed = tt;
     left = left;
     passed = λ is. passed cc;
-    write_fault = λ is. marked cc;
     reader = λ other. reader (λ is. other (ap (λ why. Err why) is));
-    writer = λ other. writer (λ is. other (ap (λ why. Err why) is));
+    writer = writer;
   }
 
   -- The error in a result.
@@ -263,36 +263,33 @@ module _ {R W : Type 0} (registers : ℕ) (source : sources.Ghosts R) (sink : si
 
   pub failed_first : (first after : R) (old new : W) (why : LineReadFault)
       → FaultLeaves registers (of_line why) source sink first after old new
-      → (why ≡ read.ReadFault → sink.flushed new ≡ true) → (why ≡ read.WriteFault → sink.failed new ≡ true)
-      → (why ≢ read.ReadFault → source.failed after ≡ false) → (why ≢ read.WriteFault → sink.failed new ≡ false)
-      → AnswersLines registers (Err (of_line why)) source sink first after old new
-  failed_first first after old new read.ReadFault left passed marked reader writer = failed first after old new ReadFault left
-      (λ is. passed refl) (λ is. cc) (λ other. absurd (other refl)) (λ other. writer (λ is. cc))
-  failed_first first after old new read.WriteFault left passed marked reader writer = failed first after old new WriteFault left
-      (λ is. cc) (λ is. marked refl) (λ other. reader (λ is. cc)) (λ other. absurd (other refl))
+      → (why ≡ read.ReadFault → sink.flushed new ≡ true) → (why ≢ read.ReadFault → source.failed after ≡ false)
+      → sink.failed new ≡ reading.is_of_write why → AnswersLines registers (Err (of_line why)) source sink first after old new
+  failed_first first after old new read.ReadFault left passed reader writer = failed first after old new ReadFault left
+      (λ is. passed refl) (λ other. absurd (other refl)) writer
+  failed_first first after old new read.WriteFault left passed reader writer = failed first after old new WriteFault left
+      (λ is. cc) (λ other. reader (λ is. cc)) writer
 
   pub failed_item : (first after : R) (old new : W) (fault : ItemFault)
       → FaultLeaves registers (of_item fault) source sink first after old new
-      → (fault ≡ item.ReadFault → sink.flushed new ≡ true) → (fault ≡ item.WriteFault → sink.failed new ≡ true)
-      → (fault ≢ item.ReadFault → source.failed after ≡ false) → (fault ≢ item.WriteFault → sink.failed new ≡ false)
-      → AnswersLines registers (Err (of_item fault)) source sink first after old new
-  failed_item first after old new item.OutOfMemory left passed marked reader writer = failed first after old new OutOfMemory left
-      (λ is. cc) (λ is. cc) (λ other. reader (λ is. cc)) (λ other. writer (λ is. cc))
-  failed_item first after old new item.ReadFault left passed marked reader writer = failed first after old new ReadFault left
-      (λ is. passed refl) (λ is. cc) (λ other. absurd (other refl)) (λ other. writer (λ is. cc))
-  failed_item first after old new item.WriteFault left passed marked reader writer = failed first after old new WriteFault left
-      (λ is. cc) (λ is. marked refl) (λ other. reader (λ is. cc)) (λ other. absurd (other refl))
+      → (fault ≡ item.ReadFault → sink.flushed new ≡ true) → (fault ≢ item.ReadFault → source.failed after ≡ false)
+      → sink.failed new ≡ items.is_of_write fault → AnswersLines registers (Err (of_item fault)) source sink first after old new
+  failed_item first after old new item.OutOfMemory left passed reader writer = failed first after old new OutOfMemory left
+      (λ is. cc) (λ other. reader (λ is. cc)) writer
+  failed_item first after old new item.ReadFault left passed reader writer = failed first after old new ReadFault left
+      (λ is. passed refl) (λ other. absurd (other refl)) writer
+  failed_item first after old new item.WriteFault left passed reader writer = failed first after old new WriteFault left
+      (λ is. cc) (λ other. reader (λ is. cc)) writer
 
   pub failed_answer : (first after : R) (old new : W) (fault : CommandFault)
       → FaultLeaves registers (of_command fault) source sink first after old new → source.failed after ≡ false
-      → (fault ≡ command.WriteFault → sink.failed new ≡ true) → (fault ≢ command.WriteFault → sink.failed new ≡ false)
-      → AnswersLines registers (Err (of_command fault)) source sink first after old new
-  failed_answer first after old new command.OutOfMemory left reader marked writer = failed first after old new OutOfMemory left
-      (λ is. cc) (λ is. cc) (λ other. reader) (λ other. writer (λ is. cc))
-  failed_answer first after old new command.WriteFault left reader marked writer = failed first after old new WriteFault left
-      (λ is. cc) (λ is. marked refl) (λ other. reader) (λ other. absurd (other refl))
+      → sink.failed new ≡ answering.is_of_write fault → AnswersLines registers (Err (of_command fault)) source sink first after old new
+  failed_answer first after old new command.OutOfMemory left reader writer = failed first after old new OutOfMemory left
+      (λ is. cc) (λ other. reader) writer
+  failed_answer first after old new command.WriteFault left reader writer = failed first after old new WriteFault left
+      (λ is. cc) (λ other. reader) writer
 
   pub failed_write : (first after : R) (old new : W) → FaultLeaves registers WriteFault source sink first after old new
       → sink.failed new ≡ true → source.failed after ≡ false → AnswersLines registers (Err WriteFault) source sink first after old new
   failed_write first after old new left marked reader = failed first after old new WriteFault left
-      (λ is. cc) (λ is. marked) (λ other. reader) (λ other. absurd (other refl))
+      (λ is. cc) (λ other. reader) marked

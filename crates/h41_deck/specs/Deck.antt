@@ -2,7 +2,7 @@
 -- number of main registers of the bench that executes the deck.
 use Rattle.std.specs.Prelude.{◌≡◌, ◌≢◌, ◌⊎◌, ℕ, ◌<◌, ◌≤◌, Bool, true, false, List, [], ◌∷◌}
 use Rattle.std.specs.Prelude.{◌++◌, flat_map, length, take, is_some, if◌then◌else◌, Option}
-use Rattle.std.specs.Prelude.{IfSome, Result, IfErr, OnOk}
+use Rattle.std.specs.Prelude.{IfSome, Result, Ok, Err, IfErr, OnOk}
 use Rattle.std.specs.List.{list_any}
 use Rattle.std.specs.Io.KnownBytes.{Appends, Consumes}
 use Rattle.h41_deck.specs.declared.replies.Outcome.{Outcome}
@@ -157,6 +157,17 @@ abbrev pub LeavesDeck : {A R W : Type 0} → ℕ → Result A Fault → sources.
     → R → R → W → W → Type 0
 LeavesDeck registers result source sink before after old new =
     IfErr result (λ fault. FaultLeaves registers fault source sink before after old new)
+
+-- The error is that writing failed.
+abbrev pub is_of_write : Fault → Bool
+is_of_write OutOfMemory = false
+is_of_write ReadFault = false
+is_of_write WriteFault = true
+
+-- The execution of a deck ended because writing failed.
+abbrev pub is_write_fault : {A : Type 0} → Result A Fault → Bool
+is_write_fault (Ok done) = false
+is_write_fault (Err fault) = is_of_write fault
 
 -- After an error other than `WriteFault`, everything that is written is flushed.
 abbrev pub PassedOn : {A : Type 0} → Result A Fault → Bool → Type 0

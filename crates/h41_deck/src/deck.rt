@@ -4,6 +4,7 @@ ghost use Rattle.std.specs.Prelude.{◌≡◌, ◌≢◌, ◌≤◌, Err, IfOk, 
 ghost use Rattle.h41_debug.specs.Bench.{start};
 ghost use Rattle.h41_ends.specs.Ends.{GivesWithin};
 ghost use Rattle.h41_deck.specs.Deck.{EndsKnown, LeavesDeck, PassedOn, ReadsInTurn, WritesDeck};
+ghost use Rattle.h41_deck.specs.Deck.{is_write_fault};
 ghost use Rattle.h41_deck.specs.private.AnsweredLines.{AnswersLines};
 
 use crate::lines::{answer, answer_line};
@@ -53,9 +54,8 @@ pub fn run_deck<R: Talk<W>, W: Sink, const REGS: usize>(
     ensures bound { GivesWithin (R.given reader.old) (R.given reader.new) }
 
     // The error flags say which stream failed.
-    ensures write_fault { result ≡ Err Fault.WriteFault → W.failed writer.new ≡ true }
     ensures reader { result ≢ Err Fault.ReadFault → R.failed reader.new ≡ false }
-    ensures writer { result ≢ Err Fault.WriteFault → W.failed writer.new ≡ false }
+    ensures writer { W.failed writer.new ≡ is_write_fault result }
 {
     match answer_deck::<R, W, REGS>(alloc, reader, writer) {
         Err(Fault::OutOfMemory) => {

@@ -1,10 +1,11 @@
 //! Executes single lines of a deck.
 
-ghost use Rattle.std.specs.Prelude.{◌≡◌, ◌≢◌, true, false, Err, Some};
+ghost use Rattle.std.specs.Prelude.{◌≡◌, true, false, Err, Some};
 ghost use Rattle.h41_commands.specs.private.Entries.{what_is_spelled};
 ghost use Rattle.h41_commands.specs.FirstLines.{first_line, opens_block};
 ghost use Rattle.h41_commands.specs.Items.{line_spelled};
 ghost use Rattle.h41_deck.specs.private.AnsweredItems.{AnswersItem, AnswersLine};
+ghost use Rattle.h41_deck.specs.private.Writing.{is_write_fault};
 ghost use Rattle.h41_deck.specs.Replies.{item_takes_memory};
 
 use crate::replies::{Outcome, apply, end, say_alone};
@@ -38,8 +39,7 @@ pub fn answer_line<W: Sink, const REGS: usize>(
         W.contents writer.old writer.new }
     ensures memory { result ≡ Err CommandFault.OutOfMemory
         → item_takes_memory (line_spelled line.now) ≡ true }
-    ensures mark { result ≡ Err CommandFault.WriteFault → W.failed writer.new ≡ true }
-    ensures clear { result ≢ Err CommandFault.WriteFault → W.failed writer.new ≡ false }
+    ensures mark { W.failed writer.new ≡ is_write_fault result }
 {
     match line_command(first, line, keys) {
         Ok(command) => {
@@ -68,8 +68,7 @@ pub fn answer<W: Sink, const REGS: usize>(
         W.contents writer.old writer.new }
     ensures memory { result ≡ Err CommandFault.OutOfMemory
         → item_takes_memory (what_is_spelled item) ≡ true }
-    ensures mark { result ≡ Err CommandFault.WriteFault → W.failed writer.new ≡ true }
-    ensures clear { result ≢ Err CommandFault.WriteFault → W.failed writer.new ≡ false }
+    ensures mark { W.failed writer.new ≡ is_write_fault result }
 {
     match item {
         Item::Given(GivenCommand { command, block }) => apply(alloc, bench, command, block, writer),

@@ -1,6 +1,6 @@
 //! The replies to commands: what each does to the bench, and what it prints.
 
-ghost use Rattle.std.specs.Prelude.{◌≡◌, ◌≢◌, true, false, Err, IfOk, None, Ok, OnOk, OnErr};
+ghost use Rattle.std.specs.Prelude.{◌≡◌, true, false, Err, IfOk, None, Ok, OnErr, is_err};
 ghost use Rattle.std.specs.Prelude.{length, vec_len, ◌≤◌, ℕ, List, []};
 ghost use Rattle.h41_commands.specs.Commands.{kind_of};
 ghost use Rattle.h41_commands.specs.private.Contents.{IsForPage, IsForProgram};
@@ -13,7 +13,8 @@ ghost use Rattle.h41_deck.specs.Views.{line_of};
 ghost use Rattle.h41_deck.specs.private.Blocks.{LoadsTaken, PlugsTaken, PlugsWordsOf};
 ghost use Rattle.h41_deck.specs.Replies.{LoadsBytes, Reply, is_silent, takes_memory};
 ghost use Rattle.h41_deck.specs.private.Writing.{Acts, SaysAlone, Says, EndsAs, IsAccepted};
-ghost use Rattle.h41_deck.specs.private.Writing.{IsRefusalOf, KeepsIfOutOfMemory, made_text};
+ghost use Rattle.h41_deck.specs.private.Writing.{IsRefusalOf, KeepsIfOutOfMemory, is_write_fault};
+ghost use Rattle.h41_deck.specs.private.Writing.{made_text};
 
 use crate::replies::listing::listed;
 use crate::replies::running::{run, set_break, trace, unbreak};
@@ -85,8 +86,7 @@ pub fn apply<W: Sink, const REGS: usize>(
     ensures unchanged { KeepsIfOutOfMemory result bench.old.state bench.new.state }
 
     // The error flag says whether writing failed.
-    ensures mark { result ≡ Err CommandFault.WriteFault → W.failed writer.new ≡ true }
-    ensures clear { result ≢ Err CommandFault.WriteFault → W.failed writer.new ≡ false }
+    ensures mark { W.failed writer.new ≡ is_write_fault result }
 {
     let refusal = say(alloc, bench, command, block, writer)?;
     Ok(end(refusal, writer)?)
@@ -109,8 +109,7 @@ fn say<W: Sink, const REGS: usize>(
     ensures memory { result ≡ Err CommandFault.OutOfMemory → takes_memory command.entry ≡ true }
     ensures accepted { result ≡ Err CommandFault.OutOfMemory → IsAccepted block }
     ensures unchanged { KeepsIfOutOfMemory result bench.old.state bench.new.state }
-    ensures mark { result ≡ Err CommandFault.WriteFault → W.failed writer.new ≡ true }
-    ensures clear { result ≢ Err CommandFault.WriteFault → W.failed writer.new ≡ false }
+    ensures mark { W.failed writer.new ≡ is_write_fault result }
 {
     if let Some(refusal) = block.refusal() {
         return Ok(Some(Refusal::from(refusal)));
@@ -143,8 +142,7 @@ pub(crate) fn say_alone<W: Sink, const REGS: usize>(
         W.contents writer.old writer.new }
     ensures memory { result ≡ Err CommandFault.OutOfMemory → takes_memory command.entry ≡ true }
     ensures unchanged { KeepsIfOutOfMemory result bench.old.state bench.new.state }
-    ensures mark { result ≡ Err CommandFault.WriteFault → W.failed writer.new ≡ true }
-    ensures clear { result ≢ Err CommandFault.WriteFault → W.failed writer.new ≡ false }
+    ensures mark { W.failed writer.new ≡ is_write_fault result }
 {
     match command {
         Command::Run(limit) => Ok(run(bench, limit, writer)?),
@@ -326,8 +324,7 @@ fn say_made<W: Sink>(
     requires { W.failed writer.old ≡ false }
     ensures refusal { IfOk result (IsRefusalOf made) }
     ensures written { Writes result W.contents writer.old writer.new (made_text made) }
-    ensures clear { OnOk result (W.failed writer.new ≡ false) }
-    ensures mark { OnErr result (W.failed writer.new ≡ true) }
+    ensures mark { W.failed writer.new ≡ is_err result }
 {
     match made {
         Ok(text) => {
@@ -345,8 +342,7 @@ pub(crate) fn end<W: Sink>(refusal: Option<Refusal>, writer: &mut W) -> Result<O
     requires { W.failed writer.old ≡ false }
     ensures outcome { IfOk result (EndsAs refusal) }
     ensures written { Writes result W.contents writer.old writer.new (ending_line refusal) }
-    ensures clear { OnOk result (W.failed writer.new ≡ false) }
-    ensures mark { OnErr result (W.failed writer.new ≡ true) }
+    ensures mark { W.failed writer.new ≡ is_err result }
 {
     match refusal {
         None => Ok(Outcome::Accepted),
@@ -363,8 +359,7 @@ pub(crate) fn end<W: Sink>(refusal: Option<Refusal>, writer: &mut W) -> Result<O
 fn tell<W: Sink>(refusal: Refusal, writer: &mut W) -> Result<(), WriteFault>
     requires { W.failed writer.old ≡ false }
     ensures written { Writes result W.contents writer.old writer.new (refusal_line refusal) }
-    ensures clear { OnOk result (W.failed writer.new ≡ false) }
-    ensures mark { OnErr result (W.failed writer.new ≡ true) }
+    ensures mark { W.failed writer.new ≡ is_err result }
 {
     match refusal.detail() {
         None => write_line(refusal.heading(), writer),
@@ -378,8 +373,7 @@ fn write_line<W: Sink>(text: &str, writer: &mut W) -> Result<(), WriteFault>
     requires clear { W.failed writer.old ≡ false }
     requires short { length text.now ≤ 22 }
     ensures written { Writes result W.contents writer.old writer.new (line_of text.now) }
-    ensures clear { OnOk result (W.failed writer.new ≡ false) }
-    ensures mark { OnErr result (W.failed writer.new ≡ true) }
+    ensures mark { W.failed writer.new ≡ is_err result }
 {
     let mut line = ArrayString::<SHORT_LINE>::new();
     line.push_str(text);

@@ -1,16 +1,12 @@
 -- What a read returns: whether there is more, or which error.
 use Rattle.std.proofs.Common.{◌≡◌, Bool, true, false, Result, Ok, Err}
 use Rattle.h41_ends.specs.declared.fault.LineReadFault.{LineReadFault}
-use Rattle.h41_ends.specs.declared.fault.LineReadFault.TheVariants.{ReadFault, WriteFault}
 
 pub no_fault : (more : Bool) (fault : LineReadFault) → ◌≡◌ {A = Result Bool LineReadFault} (Ok more) (Err fault) → ⊥
 no_fault more fault is = cc
 
 pub no_answer : (more : Bool) (fault : LineReadFault) → ◌≡◌ {A = Result Bool LineReadFault} (Err fault) (Ok more) → ⊥
 no_answer more fault is = cc
-
-pub no_write : ◌≡◌ {A = Result Bool LineReadFault} (Err ReadFault) (Err WriteFault) → ⊥
-no_write is = cc
 
 pub no_end : ◌≡◌ {A = Result Bool LineReadFault} (Ok true) (Ok false) → ⊥
 no_end is = cc

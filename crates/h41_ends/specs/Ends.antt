@@ -1,9 +1,14 @@
 -- Inputs up to their limit, the bytes that sources deliver, failed writes, what the wrappers
 -- `FromRead` and `ToWrite` contain, and what is written after a call.
-use Rattle.std.specs.Prelude.{◌≡◌, ◌==◌, ◌&&◌, ◌<◌, ◌≤◌, ℕ, Bool, true, not, List, length, nat_le}
-use Rattle.std.specs.Prelude.{◌+◌, ◌-◌, take, is_some, min, Option, Some, IfSome, Result, Ok, Err}
+use Rattle.std.specs.Prelude.{◌≡◌, ◌==◌, ◌&&◌, ◌<◌, ◌≤◌, ℕ, Bool, true, false, not, List, length}
+use Rattle.std.specs.Prelude.{◌+◌, ◌-◌, nat_le, take, is_some, min, Option, Some, IfSome, Result}
+use Rattle.std.specs.Prelude.{Ok, Err}
 use Rattle.std.specs.Io.KnownBytes.{Appends}
 use Rattle.std.specs.declared.io.Error.{Error}
+use Rattle.h41_ends.specs.declared.fault.InputFault.{InputFault}
+use Rattle.h41_ends.specs.declared.fault.InputFault.TheVariants as input
+use Rattle.h41_ends.specs.declared.fault.LineReadFault.{LineReadFault}
+use Rattle.h41_ends.specs.declared.fault.LineReadFault.TheVariants as line
 use Rattle.h41_ends.specs.declared.source.FromRead.{FromRead}
 use Rattle.h41_ends.specs.declared.sink.ToWrite.{ToWrite}
 
@@ -52,6 +57,22 @@ SaysWhole known is_whole = IfSome known (λ input. is_whole ≡ nat_le (length i
 abbrev pub is_failed_write : {E : Type 0} → Result ℕ E → List ℕ → Bool
 is_failed_write (Ok n) bytes = n == 0 && not (length bytes == 0)
 is_failed_write (Err e) bytes = true
+
+-- The input could not be read because a read failed.
+abbrev pub is_read_fault : {A : Type 0} → Result A InputFault → Bool
+is_read_fault (Ok done) = false
+is_read_fault (Err input.OutOfMemory) = false
+is_read_fault (Err input.ReadFault) = true
+
+-- The error is that the output could not be flushed.
+abbrev pub is_of_write : LineReadFault → Bool
+is_of_write line.ReadFault = false
+is_of_write line.WriteFault = true
+
+-- A line could not be read because the output could not be flushed.
+abbrev pub is_write_fault : {A : Type 0} → Result A LineReadFault → Bool
+is_write_fault (Ok done) = false
+is_write_fault (Err fault) = is_of_write fault
 
 -- The reader of a `FromRead`.
 abbrev pub reader_of : {R : Type 0} → FromRead R → R

@@ -1,7 +1,8 @@
 //! Reads an input completely.
 
-ghost use Rattle.std.specs.Prelude.{◌≡◌, ◌≢◌, ◌≤◌, true, false, IfOk, Err, vec_len};
-ghost use Rattle.h41_ends.specs.Ends.{GivesTooMany, GivesWithin, IsFront, SaysWhole, most_bytes};
+ghost use Rattle.std.specs.Prelude.{◌≡◌, ◌≤◌, false, IfOk, vec_len};
+ghost use Rattle.h41_ends.specs.Ends.{GivesTooMany, GivesWithin, IsFront, SaysWhole, is_read_fault};
+ghost use Rattle.h41_ends.specs.Ends.{most_bytes};
 
 use crate::fault::InputFault;
 use crate::source::Source;
@@ -36,8 +37,7 @@ pub fn read_whole<R: Source>(alloc: Global, reader: &mut R) -> Result<ReadInput,
     ensures given { IfOk result (λ input. input.is_whole ≡ false
         → GivesTooMany (R.given reader.old) (R.given reader.new)) }
     ensures within { GivesWithin (R.given reader.old) (R.given reader.new) }
-    ensures mark { result ≡ Err InputFault.ReadFault → R.failed reader.new ≡ true }
-    ensures clear { result ≢ Err InputFault.ReadFault → R.failed reader.new ≡ false }
+    ensures mark { R.failed reader.new ≡ is_read_fault result }
 {
     let mut bytes = Vec::new(alloc);
     let mut block = [0u8; BLOCK];

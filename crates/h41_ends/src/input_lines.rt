@@ -53,6 +53,7 @@ impl InputLines {
     ghost use Rattle.std.specs.Prelude.{◌≡◌, ◌≢◌, ◌⊎◌, ◌≤◌, ◌<◌, ◌+◌, ◌==◌, ℕ, [], true, false};
     ghost use Rattle.std.specs.Prelude.{Some, Err, Ok, OnErr, OnOk, position};
     ghost use Rattle.std.specs.Io.KnownBytes.{Keeps};
+    ghost use Rattle.h41_ends.specs.Ends.{is_write_fault};
     ghost use Rattle.h41_ends.specs.HeardLines.{AreNone, Hears};
     ghost use Rattle.h41_ends.specs.InputLines.{CountsOn, HasRead, IsCounted, IsStopped, IsTold};
     ghost use Rattle.h41_ends.specs.InputLines.{IsUnended};
@@ -121,8 +122,7 @@ impl InputLines {
         ensures kept { Keeps (W.contents writer.old) (W.contents writer.new) }
         ensures counted { CountsOn self.old self.new (R.given reader.old) (R.given reader.new) }
         ensures reader { result ≢ Err LineReadFault.ReadFault → R.failed reader.new ≡ false }
-        ensures writer { result ≢ Err LineReadFault.WriteFault → W.failed writer.new ≡ false }
-        ensures write_fault { result ≡ Err LineReadFault.WriteFault → W.failed writer.new ≡ true }
+        ensures writer { W.failed writer.new ≡ is_write_fault result }
     {
         loop {
             if let Some(end) = line_end(self.held()) {
@@ -202,8 +202,7 @@ impl InputLines {
         ensures kept { Keeps (W.contents writer.old) (W.contents writer.new) }
         ensures counted { CountsOn self.old self.new (R.given reader.old) (R.given reader.new) }
         ensures reader { result ≢ Err LineReadFault.ReadFault → R.failed reader.new ≡ false }
-        ensures writer { result ≢ Err LineReadFault.WriteFault → W.failed writer.new ≡ false }
-        ensures write_fault { result ≡ Err LineReadFault.WriteFault → W.failed writer.new ≡ true }
+        ensures writer { W.failed writer.new ≡ is_write_fault result }
     {
         flush_rest(writer)?;
         if self.is_over {

@@ -1,6 +1,6 @@
 //! Writes an output completely.
 
-ghost use Rattle.std.specs.Prelude.{◌≡◌, true, false, OnOk, OnErr};
+ghost use Rattle.std.specs.Prelude.{◌≡◌, true, false, OnOk, is_err};
 ghost use Rattle.std.specs.Io.KnownBytes.{Keeps};
 ghost use Rattle.h41_ends.specs.Ends.{Writes};
 
@@ -16,8 +16,7 @@ use crate::sink::Sink;
 pub fn write_whole<W: Sink>(writer: &mut W, bytes: &[u8]) -> Result<(), WriteFault>
     requires { W.failed writer.old ≡ false }
     ensures written { Writes result W.contents writer.old writer.new bytes.now }
-    ensures clear { OnOk result (W.failed writer.new ≡ false) }
-    ensures mark { OnErr result (W.failed writer.new ≡ true) }
+    ensures mark { W.failed writer.new ≡ is_err result }
 {
     let mut written = 0;
     while written < bytes.len() {
@@ -38,8 +37,7 @@ pub fn flush<W: Sink>(writer: &mut W) -> Result<(), WriteFault>
     requires { W.failed writer.old ≡ false }
     ensures bytes { Keeps (W.contents writer.old) (W.contents writer.new) }
     ensures flushed { OnOk result (W.flushed writer.new ≡ true) }
-    ensures clear { OnOk result (W.failed writer.new ≡ false) }
-    ensures mark { OnErr result (W.failed writer.new ≡ true) }
+    ensures mark { W.failed writer.new ≡ is_err result }
 {
     match writer.flush() {
         Ok(()) => Ok(()),
@@ -57,8 +55,7 @@ pub fn flush_rest<W: Sink>(writer: &mut W) -> Result<(), WriteFault>
     requires { W.failed writer.old ≡ false }
     ensures bytes { Keeps (W.contents writer.old) (W.contents writer.new) }
     ensures flushed { OnOk result (W.flushed writer.new ≡ true) }
-    ensures clear { OnOk result (W.failed writer.new ≡ false) }
-    ensures mark { OnErr result (W.failed writer.new ≡ true) }
+    ensures mark { W.failed writer.new ≡ is_err result }
 {
     if writer.is_flushed() {
         return Ok(());

@@ -1,6 +1,6 @@
 //! Writes a text, or the answer to a source or a list of words, and flushes it.
 
-ghost use Rattle.std.specs.Prelude.{◌≡◌, true, false, IfOk, OnOk, OnErr};
+ghost use Rattle.std.specs.Prelude.{◌≡◌, true, false, IfOk, OnOk, OnErr, is_err};
 ghost use Rattle.h41_ends.specs.Ends.{Appended};
 ghost use Rattle.h41_jobs.specs.Outputs.{AppendsFront};
 
@@ -17,8 +17,7 @@ pub fn write_text<W: Sink>(writer: &mut W, text: &[u8]) -> Result<(), WriteFault
     ensures text { OnOk result (Appended W.contents writer.old writer.new text.now) }
     ensures front { OnErr result (AppendsFront W.contents writer.old writer.new text.now) }
     ensures flushed { OnOk result (W.flushed writer.new ≡ true) }
-    ensures clear { OnOk result (W.failed writer.new ≡ false) }
-    ensures mark { OnErr result (W.failed writer.new ≡ true) }
+    ensures mark { W.failed writer.new ≡ is_err result }
 {
     write_whole(writer, text)?;
     flush(writer)
@@ -36,8 +35,7 @@ pub fn write_answer<W: Sink>(writer: &mut W, answer: &Answer) -> Result<Ended, W
     ensures front { OnErr result
         (AppendsFront W.contents writer.old writer.new answer.now.text.items) }
     ensures flushed { OnOk result (W.flushed writer.new ≡ true) }
-    ensures clear { OnOk result (W.failed writer.new ≡ false) }
-    ensures mark { OnErr result (W.failed writer.new ≡ true) }
+    ensures mark { W.failed writer.new ≡ is_err result }
 {
     write_text(writer, &answer.text)?;
     Ok(answer.ended)

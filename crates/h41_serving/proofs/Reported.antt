@@ -2,7 +2,7 @@
 use Rattle.std.proofs.Common.{◌≡◌, Bool, true, false, List, ℕ, ◌+◌, ◌++◌, length, take, min, Option, Some, None, arith}
 use Rattle.std.proofs.Common.{Result, Ok, Err, OnErr, OnOk, ap₂, append_assoc, drop, refl, subst, sym, ◌∙◌}
 use Rattle.std.proofs.Math.Seq.{take-add}
-use Rattle.std.specs.Prelude.{MatchBool}
+use Rattle.std.specs.Prelude.{MatchBool, is_err}
 use Rattle.std.proofs.lemmas.Grind.{common_steps}
 use Rattle.std.specs.Io.KnownBytes.{Appends}
 use Rattle.h41_ends.specs.declared.sink.Sink as sinks
@@ -13,11 +13,10 @@ use Rattle.h41_serving.specs.Tasks.{Tells}
 
 pub written_tells : {T F E : Type 0} (result : Result T F) (stderr : sinks.Ghosts E) (old new : E) (text : List ℕ)
     → OnOk result (Appended stderr.contents old new text) → OnErr result (AppendsFront stderr.contents old new text)
-    → OnOk result (stderr.flushed new ≡ true) → OnOk result (stderr.failed new ≡ false) → OnErr result (stderr.failed new ≡ true)
-    → Tells stderr old new text
-written_tells (Ok done) stderr old new text whole front flushed clear mark =
+    → OnOk result (stderr.flushed new ≡ true) → stderr.failed new ≡ is_err result → Tells stderr old new text
+written_tells (Ok done) stderr old new text whole front flushed mark =
     record { whole = λ is. whole; flushed = λ is. flushed; front = λ is. cc }
-written_tells (Err fault) stderr old new text whole front flushed clear mark =
+written_tells (Err fault) stderr old new text whole front flushed mark =
     record { whole = λ is. cc; flushed = λ is. cc; front = λ is. front }
 
 -- A prefix of a text is a prefix of a longer text.

@@ -69,11 +69,10 @@ module _ {R W : Type 0} (registers : ℕ) (source : sources.Ghosts R) (sink : si
 
 module _ {R W : Type 0} (size : MemorySize) (source : sources.Ghosts R) (sink : sinks.Ghosts W) (before after : R) (old new : W) where
   pub run_failed : (fault : Fault) → decks.FaultLeaves (registers_of size) fault source sink before after old new
-      → (fault ≢ WriteFault → sink.flushed new ≡ true) → (fault ≡ WriteFault → sink.failed new ≡ true)
-      → (fault ≢ ReadFault → source.failed after ≡ false) → (fault ≢ WriteFault → sink.failed new ≡ false)
-      → GivesWithin (source.given before) (source.given after)
+      → (fault ≢ WriteFault → sink.flushed new ≡ true) → (fault ≢ ReadFault → source.failed after ≡ false)
+      → sink.failed new ≡ decks.is_of_write fault → GivesWithin (source.given before) (source.given after)
       → CarriesOut (tasks.Run size) (Err fault) source sink before after old new
-  run_failed fault left passed mark reader writer within =
+  run_failed fault left passed reader writer within =
       let registers = registers_of size in record {
         text = tt;
         ends = tt;
@@ -88,9 +87,8 @@ module _ {R W : Type 0} (size : MemorySize) (source : sources.Ghosts R) (sink : 
         cut = λ is. leaves_front registers source sink before after old new (let same = same_fault _ refl is in rw same at left);
         passed = passed;
         within = within;
-        write_fault = λ is. mark (same_fault _ refl is);
         reader = λ ends. reader (λ is. ends (ap (λ (of : Fault). Err of) is));
-        writer = λ ends. writer (λ is. ends (ap (λ (of : Fault). Err of) is));
+        writer = writer;
       }
 
   pub run_ended : (outcome : Outcome) → decks.WritesDeck (registers_of size) (Ok outcome) (source.remaining before) sink.contents old new
@@ -110,7 +108,6 @@ module _ {R W : Type 0} (size : MemorySize) (source : sources.Ghosts R) (sink : 
     cut = λ is. cc;
     passed = tt;
     within = within;
-    write_fault = λ is. cc;
     reader = λ other. reader;
-    writer = λ other. writer;
+    writer = writer;
   }

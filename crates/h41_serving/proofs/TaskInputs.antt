@@ -88,7 +88,6 @@ module _ {R W : Type 0} (result : Result Ended Fault) (source : sources.Ghosts R
     cut = whole.cut;
     passed = passed_none result;
     within = whole.within;
-    write_fault = whole.write_fault;
     reader = whole.reader;
     writer = whole.writer;
   }
@@ -107,7 +106,6 @@ module _ {R W : Type 0} (result : Result Ended Fault) (source : sources.Ghosts R
     cut = whole.cut;
     passed = passed_none result;
     within = whole.within;
-    write_fault = whole.write_fault;
     reader = whole.reader;
     writer = whole.writer;
   }
@@ -128,9 +126,8 @@ module _ {R W : Type 0} (text_of : List ℕ → List ℕ → Type 0) (ends_of : 
     nothing = λ other. absurd (other refl);
     cut = λ is. whole_front text_of _ _ _ bytes text read has front;
     within = within;
-    write_fault = λ is. mark;
     reader = λ other. reader;
-    writer = λ other. absurd (other refl);
+    writer = mark;
   }
 
   -- The text is written completely.
@@ -146,7 +143,6 @@ module _ {R W : Type 0} (text_of : List ℕ → List ℕ → Type 0) (ends_of : 
     nothing = tt;
     cut = λ is. cc;
     within = within;
-    write_fault = λ is. cc;
     reader = λ other. reader;
-    writer = λ other. writer;
+    writer = writer;
   }

@@ -2,6 +2,7 @@
 
 ghost use Rattle.std.specs.Prelude.{◌≡◌, ◌≢◌, true, false, Err, IfOk, OnOk};
 ghost use Rattle.h41_deck.specs.Deck.{EndsKnown, LeavesDeck, PassedOn, ReadsInTurn, WritesDeck};
+ghost use Rattle.h41_deck.specs.Deck.{is_write_fault};
 ghost use Rattle.h41_ends.specs.Ends.{GivesWithin};
 ghost use Rattle.h41_jobs.specs.MemorySizes.{registers_of};
 
@@ -35,9 +36,8 @@ pub(crate) fn run_with<R: Talk<W>, W: Sink>(
     ensures turns { ReadsInTurn (registers_of size) (R.reads reader.old) (R.reads reader.new)
         (W.contents writer.old) }
     ensures bound { GivesWithin (R.given reader.old) (R.given reader.new) }
-    ensures write_fault { result ≡ Err Fault.WriteFault → W.failed writer.new ≡ true }
     ensures reader { result ≢ Err Fault.ReadFault → R.failed reader.new ≡ false }
-    ensures writer { result ≢ Err Fault.WriteFault → W.failed writer.new ≡ false }
+    ensures writer { W.failed writer.new ≡ is_write_fault result }
 {
     match size {
         MemorySize::BareC => run_deck::<R, W, 64>(alloc, reader, writer),

@@ -4,9 +4,9 @@ use Rattle.std.specs.Prelude.{◌≡◌, ◌≢◌, ℕ, true, false, Result, Er
 use Rattle.h41_ends.specs.declared.source.Source as sources
 use Rattle.h41_ends.specs.declared.sink.Sink as sinks
 use Rattle.h41_refusals.specs.declared.fault.Fault.{Fault}
-use Rattle.h41_refusals.specs.declared.fault.Fault.TheVariants.{ReadFault, WriteFault}
+use Rattle.h41_refusals.specs.declared.fault.Fault.TheVariants.{ReadFault}
 use Rattle.h41_deck.specs.declared.replies.Outcome.{Outcome}
-use Rattle.h41_deck.specs.Deck.{EndsKnown, LeavesDeck, WritesDeck}
+use Rattle.h41_deck.specs.Deck.{EndsKnown, LeavesDeck, WritesDeck, is_write_fault}
 
 -- What executing the lines of a deck leaves, by its result.
 pub record AnswersLines {R W : Type 0} (registers : ℕ) (result : Result Outcome Fault)
@@ -17,6 +17,5 @@ pub record AnswersLines {R W : Type 0} (registers : ℕ) (result : Result Outcom
   pub flushed : OnOk result (sink.flushed new ≡ true)
   pub left : LeavesDeck registers result source sink before after old new
   pub passed : result ≡ Err ReadFault → sink.flushed new ≡ true
-  pub write_fault : result ≡ Err WriteFault → sink.failed new ≡ true
   pub reader : result ≢ Err ReadFault → source.failed after ≡ false
-  pub writer : result ≢ Err WriteFault → sink.failed new ≡ false
+  pub writer : sink.failed new ≡ is_write_fault result

@@ -2,7 +2,8 @@
 -- the code with the other definitions. The contract of `apply` uses `Acts` from it, which says what
 -- is written: `Replies`, or a prefix, `RepliesInPart`.
 use Rattle.std.specs.Global.{Global}
-use Rattle.std.specs.Prelude.{◌≡◌, ℕ, Vec, List, [], Option, Some, None, Result, Ok, Err}
+use Rattle.std.specs.Prelude.{◌≡◌, ℕ, Bool, true, false, Vec, List, [], Option, Some, None, Result}
+use Rattle.std.specs.Prelude.{Ok, Err}
 use Rattle.std.specs.Io.KnownBytes.{Appends, Keeps}
 use Rattle.std.specs.Result.{result_err}
 use Rattle.h41_commands.specs.declared.commands.Command.{Command}
@@ -65,6 +66,16 @@ Leaves (Ok outcome) item s t contents old new =
 Leaves (Err WriteFault) item s t contents old new =
     RepliesInPart item s t (contents old) (contents new)
 Leaves (Err OutOfMemory) item s t contents old new = Keeps (contents old) (contents new)
+
+-- The error is that writing failed.
+abbrev pub is_of_write : CommandFault → Bool
+is_of_write OutOfMemory = false
+is_of_write WriteFault = true
+
+-- A command was not answered completely because writing failed.
+abbrev pub is_write_fault : {A : Type 0} → Result A CommandFault → Bool
+is_write_fault (Ok done) = false
+is_write_fault (Err fault) = is_of_write fault
 
 -- If allocation failed, the bench is in the state that it had before the call.
 abbrev pub KeepsIfOutOfMemory : {A : Type 0} → Result A CommandFault → BenchState → BenchState

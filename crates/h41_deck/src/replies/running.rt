@@ -1,6 +1,6 @@
 //! Executes `run`, `trace`, `break` and `unbreak`.
 
-ghost use Rattle.std.specs.Prelude.{◌≡◌, ◌≤◌, [], false, length, OnErr, OnOk, true};
+ghost use Rattle.std.specs.Prelude.{◌≡◌, ◌≤◌, [], false, length, is_err};
 ghost use Rattle.h41_commands.specs.declared.commands.Command.TheVariants as commands;
 ghost use Rattle.h41_deck.specs.Answers.{ends_by};
 ghost use Rattle.h41_deck.specs.Replies.{Reply};
@@ -36,8 +36,7 @@ pub fn run<W: Sink, const REGS: usize>(
     requires { W.failed writer.old ≡ false }
     ensures text { RunsAlone result limit bench.old.state bench.new.state
         W.contents writer.old writer.new }
-    ensures clear { OnOk result (W.failed writer.new ≡ false) }
-    ensures mark { OnErr result (W.failed writer.new ≡ true) }
+    ensures mark { W.failed writer.new ≡ is_err result }
 {
     let (made, stop) = bench.run(limit);
     write_whole(writer, ran_text(made, stop).as_str().as_bytes())?;
@@ -97,8 +96,7 @@ pub fn trace<W: Sink, const REGS: usize>(
     requires { W.failed writer.old ≡ false }
     ensures text { TracesAlone result count bench.old.state bench.new.state
         W.contents writer.old writer.new }
-    ensures clear { OnOk result (W.failed writer.new ≡ false) }
-    ensures mark { OnErr result (W.failed writer.new ≡ true) }
+    ensures mark { W.failed writer.new ≡ is_err result }
 {
     steps_are_traced();
     for made in 0..count {

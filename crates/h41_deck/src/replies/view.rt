@@ -1,10 +1,10 @@
 //! Executes `show`.
 
-ghost use Rattle.std.specs.Prelude.{◌≡◌, ◌≢◌, ◌++◌, Err, IfOk, false, true};
+ghost use Rattle.std.specs.Prelude.{◌≡◌, ◌++◌, Err, IfOk, false, true};
 ghost use Rattle.h41_commands.specs.declared.commands.Command.TheVariants as commands;
 ghost use Rattle.h41_deck.specs.Replies.{view_takes_memory};
 ghost use Rattle.h41_deck.specs.Views.{line_of};
-ghost use Rattle.h41_deck.specs.private.Writing.{SaysAlone};
+ghost use Rattle.h41_deck.specs.private.Writing.{SaysAlone, is_write_fault};
 
 use crate::replies::image::image_shown;
 use crate::replies::{say_made, write_line};
@@ -32,8 +32,7 @@ pub fn show<W: Sink, const REGS: usize>(
     ensures text { SaysAlone result (commands.Show view) bench.now.state bench.now.state
         W.contents writer.old writer.new }
     ensures memory { result ≡ Err CommandFault.OutOfMemory → view_takes_memory view ≡ true }
-    ensures mark { result ≡ Err CommandFault.WriteFault → W.failed writer.new ≡ true }
-    ensures clear { result ≢ Err CommandFault.WriteFault → W.failed writer.new ≡ false }
+    ensures mark { W.failed writer.new ≡ is_write_fault result }
 {
     let calculator = bench.calculator();
     let ram = calculator.ram();

@@ -5,6 +5,7 @@ use Rattle.std.specs.Io.KnownBytes.{Keeps}
 use Rattle.h41_ends.specs.declared.sink.Sink as sinks
 use Rattle.h41_ends.specs.declared.source.Source as sources
 use Rattle.h41_ends.specs.Ends.{GivesWithin}
+use Rattle.h41_deck.specs.Deck.{is_write_fault}
 use Rattle.h41_refusals.specs.declared.fault.Fault.{Fault}
 use Rattle.h41_refusals.specs.declared.fault.Fault.TheVariants.{OutOfMemory, ReadFault, WriteFault}
 use Rattle.h41_jobs.specs.declared.arguments.Task.{Task}
@@ -31,9 +32,8 @@ pub record CarriesOut {R W : Type 0} (task : Task) (result : Result Ended Fault)
   pub cut : result ≡ Err WriteFault → LeavesFront task source sink before after old new
   pub passed : IfErr result (λ fault. fault ≢ WriteFault → IsPassedOn task (sink.flushed new))
   pub within : GivesWithin (source.given before) (source.given after)
-  pub write_fault : result ≡ Err WriteFault → sink.failed new ≡ true
   pub reader : result ≢ Err ReadFault → source.failed after ≡ false
-  pub writer : result ≢ Err WriteFault → sink.failed new ≡ false
+  pub writer : sink.failed new ≡ is_write_fault result
 
 -- A task whose input is read completely before anything is written: which text the input has, how
 -- the task ends for it, and how it can end at all.
@@ -56,6 +56,5 @@ pub record CarriesOutWhole {R W : Type 0} (text_of : List ℕ → List ℕ → T
       → IfSome (source.remaining before)
       (WritesFrontOf text_of (sink.contents old) (sink.contents new))
   pub within : GivesWithin (source.given before) (source.given after)
-  pub write_fault : result ≡ Err WriteFault → sink.failed new ≡ true
   pub reader : result ≢ Err ReadFault → source.failed after ≡ false
-  pub writer : result ≢ Err WriteFault → sink.failed new ≡ false
+  pub writer : sink.failed new ≡ is_write_fault result

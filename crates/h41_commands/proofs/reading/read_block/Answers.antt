@@ -125,6 +125,5 @@ returns-in_err-block g c =
       kept = fault.kept;
       counted = fault.counted;
       reader = λ not. fault.reader (λ is. not cc);
-      writer = λ not. fault.writer (λ is. not cc);
-      write_fault = λ is. fault.write_fault cc;
+      writer = fault.writer;
     })

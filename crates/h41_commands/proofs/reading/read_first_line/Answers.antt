@@ -56,8 +56,7 @@ returns-in_err-next_line g c =
       kept = keeps-both _ _ _ c.loop-input.invariant.kept fault.kept;
       counted = counts_both c.args.input.now c.loop-input.input c.next_line.new.self _ _ _ c.loop-input.invariant.counted fault.counted;
       reader = λ not. fault.reader (λ is. not cc);
-      writer = λ not. fault.writer (λ is. not cc);
-      write_fault = λ is. fault.write_fault cc;
+      writer = fault.writer;
     })
 
 pub returns-in-Some-clause-line : goal.returns-in-Some-clause-line

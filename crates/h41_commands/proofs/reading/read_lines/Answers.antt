@@ -7,7 +7,7 @@ use Rattle.h41_ends.proofs.InputReading.{counts_both, keeps-both, keeps-known, n
 use Rattle.h41_commands.proofs.HeardItems.{hears_inside}
 use Rattle.h41_commands.specs.DeckLines.{is_end}
 use Rattle.h41_commands.proofs.ItemLines.{endless_more, endless_still, takes_more}
-use Rattle.h41_commands.proofs.ReadFaults.{told_of_line, untold_of_line}
+use Rattle.h41_commands.proofs.ReadFaults.{told_of_line, untold_of_line, write_of_line}
 use Rattle.h41_commands.proofs.reading.read_lines.Goals as goal
 
 pub loop-block-init : goal.loop-block-init
@@ -53,8 +53,7 @@ returns-in_err-next_line g c =
       kept = keeps-both _ _ _ c.loop-block.invariant.kept fault.kept;
       counted = counts_both c.args.input.now c.loop-block.input c.next_line.new.self _ _ _ c.loop-block.invariant.counted fault.counted;
       reader = λ not. fault.reader (untold_of_line _ _ not);
-      writer = λ not. fault.writer (untold_of_line _ _ not);
-      write_fault = λ is. fault.write_fault (told_of_line _ _ is);
+      writer = fault.writer ∙ sym (write_of_line _);
     })
 
 pub returns-then-is_end-clause-block : goal.returns-then-is_end-clause-block

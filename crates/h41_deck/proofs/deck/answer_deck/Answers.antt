@@ -11,7 +11,7 @@ returns-in_err-bench-clause-lines g c =
     told_fault g.row.REGS g.R.Source g.W.Sink _ _ _ _ _ _ _ from.1 from.2
     (failed g.row.REGS g.R.Source g.W.Sink c.args.reader.now c.args.reader.now c.args.writer.now c.args.writer.now OutOfMemory
     (leaves_none g.row.REGS g.R.Source g.W.Sink c.args.reader.now c.args.writer.now)
-    (λ is. cc) (λ is. cc) (λ other. c.requires.reader_clear) (λ other. c.requires.writer_clear))
+    (λ is. cc) (λ other. c.requires.reader_clear) c.requires.writer_clear)
 
 pub returns-in_err-bench-clause-turns : goal.returns-in_err-bench-clause-turns
 returns-in_err-bench-clause-turns g c = ([], adds_none _, tt)

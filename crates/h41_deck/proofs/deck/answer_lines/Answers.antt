@@ -44,7 +44,7 @@ pub read_block-requires-clause-reader_clear : goal.read_block-requires-clause-re
 read_block-requires-clause-reader_clear g c = c.in_ok-first.ensures.reader never_failed
 
 pub read_block-requires-clause-writer_clear : goal.read_block-requires-clause-writer_clear
-read_block-requires-clause-writer_clear g c = c.in_ok-first.ensures.writer never_failed
+read_block-requires-clause-writer_clear g c = c.in_ok-first.ensures.writer
 
 pub loop-first-smaller : goal.loop-first-smaller
 loop-first-smaller g c = rw c.in-Some.is at c.in_ok-first.ensures.fewer
@@ -60,12 +60,12 @@ pub read_block-requires-clause-opens : goal.read_block-requires-clause-opens
 read_block-requires-clause-opens g c = sym c.if-opens_block.ensures
 
 pub answer-requires : goal.answer-requires
-answer-requires g c = (search rules, c.in_ok-item.ensures.writer never_failed)
+answer-requires g c = (search rules, c.in_ok-item.ensures.writer)
 
 pub answer_line-requires : goal.answer_line-requires
 answer_line-requires g c =
     let first = rw c.in-Some.is at c.in_ok-first.ensures.first in
-    (search rules, (c.in_ok-first.ensures.writer never_failed, search (rules, first)))
+    (search rules, (c.in_ok-first.ensures.writer, search (rules, first)))
 
 pub loop-first-preserved-then-opens_block : goal.loop-first-preserved-then-opens_block
 loop-first-preserved-then-opens_block g c =
@@ -85,7 +85,7 @@ loop-first-preserved-then-opens_block g c =
         rw c.and-outcome.ensures (told_more _ _ _ _ _ _ _ _ _ told c.in_ok-answered.ensures.reply),
       );
       reader = c.in_ok-item.ensures.reader never_failed;
-      writer = c.in_ok-answered.ensures.clear never_failed;
+      writer = c.in_ok-answered.ensures.mark;
       counted = c.in_ok-item.ensures.counted _ (c.in_ok-first.ensures.counted _ c.loop-first.invariant.counted);
       heard = (
         heard.0 ++ what_is_spelled c.in_ok-item.item ∷ [],
@@ -113,7 +113,7 @@ loop-first-preserved g c =
         rw c.and-outcome-in-Some.ensures (told_more _ _ _ _ _ _ _ _ _ told (rw c.line.ensures at c.in_ok-next.ensures.reply)),
       );
       reader = c.in_ok-first.ensures.reader never_failed;
-      writer = c.in_ok-next.ensures.clear never_failed;
+      writer = c.in_ok-next.ensures.mark;
       counted = c.in_ok-first.ensures.counted _ c.loop-first.invariant.counted;
       heard = (
         heard.0 ++ line_spelled line ∷ [],
@@ -136,7 +136,7 @@ returns g c =
     record {
       lines = ended g.row.REGS g.R.Source g.W.Sink _ _ _ _ _ (deck_written _ _ _ _ _ _ _ whole
           (told_kept _ _ _ _ _ _ told c.in_ok-flush.ensures.bytes)) (deck_ended _ _ _ _ _ _ _ whole so_far.2) c.in_ok-flush.ensures.flushed
-          (c.in_ok-first.ensures.reader never_failed) c.in_ok-flush.ensures.clear;
+          (c.in_ok-first.ensures.reader never_failed) c.in_ok-flush.ensures.mark;
       turns = turns_end _ _ _ _ _ _ _ _ _ _ heard.1 heard.2 _ heard_next.hears;
       bound = gives_within c.read_first_line.new.input _ _ (c.in_ok-first.ensures.counted _ c.loop-first.invariant.counted);
     }
@@ -155,8 +155,7 @@ returns-in_err-first g c =
           so_far.1 so_far.2 fault.line fault.kept
           (λ is. fault.stopped (ap (λ why. Err why) is)) (λ is. fault.cause (ap (λ why. Err why) is))
           (fault.counted _ c.loop-first.invariant.counted))
-          (λ is. fault.flushed (ap (λ why. Err why) is)) (λ is. fault.write_fault (ap (λ why. Err why) is))
-          (λ other. fault.reader (λ is. other (same_fault _ refl is))) (λ other. fault.writer (λ is. other (same_fault _ refl is))));
+          (λ is. fault.flushed (ap (λ why. Err why) is)) (λ other. fault.reader (λ is. other (same_fault _ refl is))) fault.writer);
       turns = turns_end _ _ _ _ _ _ _ _ _ _ heard.1 heard.2 _ heard_next.hears;
       bound = gives_within c.read_first_line.new.input _ _ (c.in_err-first.ensures.counted _ c.loop-first.invariant.counted);
     }
@@ -180,8 +179,7 @@ returns-in_err-item g c =
           (block_failed _ _ _ _ _ _ _ (sym c.if-opens_block.ensures) first c.in_err-item.field-0.0 fault.item) fault.kept
           (λ is. fault.stopped (ap (λ why. Err why) is)) (λ is. fault.cause (ap (λ why. Err why) is))
           (fault.counted _ (c.in_ok-first.ensures.counted _ c.loop-first.invariant.counted)))
-          (λ is. fault.flushed (ap (λ why. Err why) is)) (λ is. fault.write_fault (ap (λ why. Err why) is))
-          (λ other. fault.reader (λ is. other (same_fault _ refl is))) (λ other. fault.writer (λ is. other (same_fault _ refl is))));
+          (λ is. fault.flushed (ap (λ why. Err why) is)) (λ other. fault.reader (λ is. other (same_fault _ refl is))) fault.writer);
       turns = turns_end _ _ _ _ _ _ _ _ _ _ heard.1 heard.2 _ heard_next.hears;
       bound = gives_within c.read_block.new.input _ _
           (c.in_err-item.ensures.counted _ (c.in_ok-first.ensures.counted _ c.loop-first.invariant.counted));
@@ -206,8 +204,7 @@ returns-in_err-answered g c =
           (leaves_answer g.row.REGS g.R.Source g.W.Sink _ _ _ c.read_block.new.writer _ _ _ _ _ _ _ c.in_err-answered.field-0.0
           (read_item _ _ _ _ _ _ so_far.1 _ next (below_most _ _ _ c.in_ok-item.ensures.bound fewer) c.in_ok-item.ensures.open) told
           fault.reply (λ is. fault.memory (ap (λ why. Err why) is)))
-          (c.in_ok-item.ensures.reader never_failed) (λ is. fault.mark (ap (λ why. Err why) is))
-          (λ other. fault.clear (λ is. other (same_fault _ refl is))));
+          (c.in_ok-item.ensures.reader never_failed) fault.mark);
       turns = turns_end _ _ _ _ _ _ _ _ _ _ heard.1 heard.2 _ heard_next.hears;
       bound = gives_within c.read_block.new.input _ _
           (c.in_ok-item.ensures.counted _ (c.in_ok-first.ensures.counted _ c.loop-first.invariant.counted));
@@ -231,8 +228,7 @@ returns-in_err-next g c =
           (leaves_answer g.row.REGS g.R.Source g.W.Sink _ _ _ c.read_first_line.new.writer _ _ _ _ _ _ _ c.in_err-next.field-0.0
           (read_item _ _ _ _ _ _ so_far.1 _ next fewer (λ unended. absurd (false≢true (sym (shut_line line) ∙ unended)))) told
           (rw c.line.ensures at fault.reply) (λ is. rw c.line.ensures at fault.memory (ap (λ why. Err why) is)))
-          (c.in_ok-first.ensures.reader never_failed) (λ is. fault.mark (ap (λ why. Err why) is))
-          (λ other. fault.clear (λ is. other (same_fault _ refl is))));
+          (c.in_ok-first.ensures.reader never_failed) fault.mark);
       turns = turns_end _ _ _ _ _ _ _ _ _ _ heard.1 heard.2 _ heard_next.hears;
       bound = gives_within c.read_first_line.new.input _ _ (c.in_ok-first.ensures.counted _ c.loop-first.invariant.counted);
     }

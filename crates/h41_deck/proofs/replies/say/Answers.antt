@@ -12,8 +12,7 @@ returns-in-Some g c = record {
   memory = λ is. cc;
   accepted = λ is. cc;
   unchanged = λ is. cc;
-  mark = λ is. cc;
-  clear = λ other. c.requires.clear;
+  mark = c.requires.clear;
 }
 
 pub returns-in_ok-plug-in-Plug : goal.returns-in_ok-plug-in-Plug
@@ -23,8 +22,7 @@ returns-in_ok-plug-in-Plug g c = record {
   memory = λ is. cc;
   accepted = λ is. cc;
   unchanged = λ is. cc;
-  mark = λ is. cc;
-  clear = λ other. c.requires.clear;
+  mark = c.requires.clear;
 }
 
 pub returns-in_ok-load-in-Load : goal.returns-in_ok-load-in-Load
@@ -34,8 +32,7 @@ returns-in_ok-load-in-Load g c = record {
   memory = λ is. cc;
   accepted = λ is. cc;
   unchanged = λ is. cc;
-  mark = λ is. cc;
-  clear = λ other. c.requires.clear;
+  mark = c.requires.clear;
 }
 
 pub returns-in_err-plug-in-Plug : goal.returns-in_err-plug-in-Plug
@@ -46,8 +43,7 @@ returns-in_err-plug-in-Plug g c =
       memory = search rules;
       accepted = search rules;
       unchanged = λ is. c.in_err-plug-in-Plug.ensures.unchanged;
-      mark = rw (failed.1, failed.2) (λ is. cc);
-      clear = λ other. c.requires.clear;
+      mark = rw (failed.1, failed.2) c.requires.clear;
     }
 
 pub returns-in_err-load-in-Load : goal.returns-in_err-load-in-Load
@@ -58,6 +54,5 @@ returns-in_err-load-in-Load g c =
       memory = search rules;
       accepted = search rules;
       unchanged = λ is. c.in_err-load-in-Load.ensures.unchanged;
-      mark = rw (failed.1, failed.2) (λ is. cc);
-      clear = λ other. c.requires.clear;
+      mark = rw (failed.1, failed.2) c.requires.clear;
     }

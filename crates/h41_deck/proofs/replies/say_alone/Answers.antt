@@ -19,8 +19,7 @@ returns-in_err-say_made-in-List g c =
           c.in_err-say_made-in-List.ensures.written);
       memory = rw (failed.1, failed.2) (λ is. cc);
       unchanged = rw (failed.1, failed.2) (λ is. cc);
-      mark = λ is. c.in_err-say_made-in-List.ensures.mark;
-      clear = rw (failed.1, failed.2) (λ other. absurd (other refl));
+      mark = rw (failed.1, failed.2) c.in_err-say_made-in-List.ensures.mark;
     }
 
 pub returns-in_default : goal.returns-in_default
@@ -28,8 +27,7 @@ returns-in_default g c = record {
   text = λ values. silent_alone c.args.command values c.args.bench.now.state _ _ _ (c.carry_out.ensures values);
   memory = λ is. cc;
   unchanged = λ is. cc;
-  mark = λ is. cc;
-  clear = λ other. c.requires.clear;
+  mark = c.requires.clear;
 }
 
 pub returns-in_ok-run-in-Run : goal.returns-in_ok-run-in-Run
@@ -39,8 +37,7 @@ returns-in_ok-run-in-Run g c = record {
       c.in_ok-run-in-Run.ensures.text;
   memory = λ is. cc;
   unchanged = λ is. cc;
-  mark = λ is. cc;
-  clear = λ other. c.in_ok-run-in-Run.ensures.clear;
+  mark = c.in_ok-run-in-Run.ensures.mark;
 }
 
 pub returns-in_err-run-in-Run : goal.returns-in_err-run-in-Run
@@ -54,8 +51,7 @@ returns-in_err-run-in-Run g c =
           c.in-Run.is c.in_err-run-in-Run.ensures.text values);
       memory = rw (failed.1, failed.2) (λ is. cc);
       unchanged = rw (failed.1, failed.2) (λ is. cc);
-      mark = λ is. c.in_err-run-in-Run.ensures.mark;
-      clear = rw (failed.1, failed.2) (λ other. absurd (other refl));
+      mark = rw (failed.1, failed.2) c.in_err-run-in-Run.ensures.mark;
     }
 
 pub returns-in_ok-trace-in-Trace : goal.returns-in_ok-trace-in-Trace
@@ -65,8 +61,7 @@ returns-in_ok-trace-in-Trace g c = record {
       c.in_ok-trace-in-Trace.ensures.text;
   memory = λ is. cc;
   unchanged = λ is. cc;
-  mark = λ is. cc;
-  clear = λ other. c.in_ok-trace-in-Trace.ensures.clear;
+  mark = c.in_ok-trace-in-Trace.ensures.mark;
 }
 
 pub returns-in_err-trace-in-Trace : goal.returns-in_err-trace-in-Trace
@@ -80,8 +75,7 @@ returns-in_err-trace-in-Trace g c =
           c.in-Trace.is c.in_err-trace-in-Trace.ensures.text values);
       memory = rw (failed.1, failed.2) (λ is. cc);
       unchanged = rw (failed.1, failed.2) (λ is. cc);
-      mark = λ is. c.in_err-trace-in-Trace.ensures.mark;
-      clear = rw (failed.1, failed.2) (λ other. absurd (other refl));
+      mark = rw (failed.1, failed.2) c.in_err-trace-in-Trace.ensures.mark;
     }
 
 pub returns-in_ok-say_made-in-List : goal.returns-in_ok-say_made-in-List
@@ -89,8 +83,7 @@ returns-in_ok-say_made-in-List g c = record {
   text = search rules;
   memory = λ is. cc;
   unchanged = λ is. cc;
-  mark = λ is. cc;
-  clear = λ other. c.in_ok-say_made-in-List.ensures.clear;
+  mark = c.in_ok-say_made-in-List.ensures.mark;
 }
 
 pub returns-in_err-listing-in-List : goal.returns-in_err-listing-in-List
@@ -100,8 +93,7 @@ returns-in_err-listing-in-List g c =
       text = λ values. nothing_said _ _ failed.1 _ _ _ _ _ failed.2;
       memory = search rules;
       unchanged = λ is. refl;
-      mark = rw (failed.1, failed.2) (λ is. cc);
-      clear = λ other. c.requires.clear;
+      mark = rw (failed.1, failed.2) c.requires.clear;
     }
 
 pub returns-in-Show : goal.returns-in-Show
@@ -112,5 +104,4 @@ returns-in-Show g c = record {
   memory = search rules;
   unchanged = λ is. refl;
   mark = c.show.ensures.mark;
-  clear = c.show.ensures.clear;
 }

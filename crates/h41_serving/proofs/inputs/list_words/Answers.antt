@@ -23,4 +23,4 @@ returns g c =
     (written_whole ListingText ListingEnds IsNotRefused g.R.Source g.W.Sink
     c.args.reader.now c.read_input.new.reader c.args.writer.now c.write_answer.new.writer c.in_ok-words.words.items
     c.in_ok-answer.answer.text.items read.bytes made.text (read.clear (λ is. cc)) read.within c.in_ok-answer.answer.ended made.ends
-    made.kind written.text written.flushed written.clear)
+    made.kind written.text written.flushed written.mark)

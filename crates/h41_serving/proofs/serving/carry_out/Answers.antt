@@ -1,4 +1,4 @@
-use Rattle.std.proofs.Common.{Err, ap, refl}
+use Rattle.std.proofs.Common.{refl}
 use Rattle.std.proofs.lemmas.Result.{err_from_is_err_and}
 use Rattle.h41_serving.proofs.TaskDecks.{run_ended, run_failed, same_fault}
 use Rattle.h41_serving.proofs.TaskInputs.{assembled, listed}
@@ -21,7 +21,7 @@ returns-in_ok-run_with-in-Run-clause-carried g c =
     let ended = c.in_ok-run_with-in-Run.ensures in
     rw (c.ended.ensures, c.in-Run.is)
     (run_ended c.in-Run.memory g.R.Source g.W.Sink c.args.reader.now c.run_with.new.reader c.args.writer.now c.run_with.new.writer
-    c.in_ok-run_with-in-Run.field-0 ended.deck ended.outcome ended.flushed (ended.reader (λ is. cc)) (ended.writer (λ is. cc)) ended.bound)
+    c.in_ok-run_with-in-Run.field-0 ended.deck ended.outcome ended.flushed (ended.reader (λ is. cc)) ended.writer ended.bound)
 
 pub returns-in_err-run_with-in-Run-clause-carried : goal.returns-in_err-run_with-in-Run-clause-carried
 returns-in_err-run_with-in-Run-clause-carried g c =
@@ -29,9 +29,8 @@ returns-in_err-run_with-in-Run-clause-carried g c =
     let fault = c.in_err-run_with-in-Run.ensures in
     rw (from.1, from.2, c.in-Run.is)
     (run_failed c.in-Run.memory g.R.Source g.W.Sink c.args.reader.now c.run_with.new.reader c.args.writer.now c.run_with.new.writer
-    c.in_err-run_with-in-Run.field-0.0 fault.left fault.passed (λ is. fault.write_fault (ap (λ why. Err why) is))
-    (λ other. fault.reader (λ is. other (same_fault _ refl is))) (λ other. fault.writer (λ is. other (same_fault _ refl is)))
-    fault.bound)
+    c.in_err-run_with-in-Run.field-0.0 fault.left fault.passed (λ other. fault.reader (λ is. other (same_fault _ refl is)))
+    fault.writer fault.bound)
 
 pub returns-in-Assemble-clause-turns : goal.returns-in-Assemble-clause-turns
 returns-in-Assemble-clause-turns g c = rw c.in-Assemble.is tt

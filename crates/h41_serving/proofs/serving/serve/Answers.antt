@@ -1,7 +1,8 @@
 use Rattle.std.proofs.Common.{Err, ap, refl, sym, ◌∙◌}
 use Rattle.std.proofs.lemmas.Bool.{false≢true}
+use Rattle.h41_deck.specs.Deck.{is_of_write}
 use Rattle.h41_refusals.specs.declared.fault.Fault.{Fault}
-use Rattle.h41_serving.proofs.Served.{is_read, is_write}
+use Rattle.h41_serving.proofs.Served.{is_read, is_write, not_write}
 use Rattle.h41_serving.proofs.TaskDecks.{same_fault}
 use Rattle.h41_serving.proofs.serving.serve.Goals as goal
 
@@ -35,7 +36,7 @@ returns-in-Err-clause-outcome g c = λ other. absurd (other c.tell.ensures.statu
 pub returns-in-Err-clause-partial : goal.returns-in-Err-clause-partial
 returns-in-Err-clause-partial g c =
     λ is clear. c.in-Err.ensures.carried.partial
-    (λ was. absurd (false≢true (sym clear ∙ c.in-Err.ensures.carried.write_fault (ap (λ (of : Fault). Err of) was))))
+    (λ was. absurd (false≢true (sym clear ∙ c.in-Err.ensures.carried.writer ∙ ap is_of_write was)))
 
 pub returns-in-Err-clause-unread : goal.returns-in-Err-clause-unread
 returns-in-Err-clause-unread g c =
@@ -45,22 +46,22 @@ returns-in-Err-clause-unread g c =
 pub returns-in-Err-clause-cut : goal.returns-in-Err-clause-cut
 returns-in-Err-clause-cut g c =
     λ is set. c.in-Err.ensures.carried.cut
-    (ap (λ (of : Fault). Err of) (is_write c.in-Err.fault _ refl c.in-Err.ensures.carried.writer set))
+    (ap (λ (of : Fault). Err of) (is_write c.in-Err.fault (sym c.in-Err.ensures.carried.writer ∙ set)))
 
 pub returns-in-Err-clause-passed : goal.returns-in-Err-clause-passed
 returns-in-Err-clause-passed g c =
     λ is clear. c.in-Err.ensures.carried.passed
-    (λ was. absurd (false≢true (sym clear ∙ c.in-Err.ensures.carried.write_fault (ap (λ (of : Fault). Err of) was))))
+    (λ was. absurd (false≢true (sym clear ∙ c.in-Err.ensures.carried.writer ∙ ap is_of_write was)))
 
 pub returns-in-Err-clause-fault : goal.returns-in-Err-clause-fault
 returns-in-Err-clause-fault g c = λ is. record {
   fault = c.in-Err.fault;
   cause = record {
     read = λ was. c.in-Err.ensures.carried.read (ap (λ (of : Fault). Err of) was);
-    write = λ was. c.in-Err.ensures.carried.write_fault (ap (λ (of : Fault). Err of) was);
+    write = λ was. c.in-Err.ensures.carried.writer ∙ ap is_of_write was;
     memory = λ was. c.in-Err.ensures.carried.memory (ap (λ (of : Fault). Err of) was);
     not_read = λ other. c.in-Err.ensures.carried.reader (λ same. other (same_fault _ refl same));
-    not_write = λ other. c.in-Err.ensures.carried.writer (λ same. other (same_fault _ refl same));
+    not_write = λ other. c.in-Err.ensures.carried.writer ∙ not_write c.in-Err.fault other;
   };
   line = c.tell.ensures.line;
 }

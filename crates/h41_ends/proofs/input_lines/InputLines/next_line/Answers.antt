@@ -30,8 +30,7 @@ returns-in-Some g c =
       kept = so_far.kept;
       counted = counts_both old mid new _ _ _ so_far.counted (counts_same mid new _ told.same.count told.same.over);
       reader = λ other. so_far.reader;
-      writer = λ other. so_far.writer;
-      write_fault = λ is. absurd (no_fault _ _ is);
+      writer = so_far.writer;
     }
 
 pub returns-then-self : goal.returns-then-self
@@ -49,8 +48,7 @@ returns-then-self g c =
       kept = so_far.kept;
       counted = so_far.counted;
       reader = λ other. so_far.reader;
-      writer = λ other. so_far.writer;
-      write_fault = λ is. absurd (no_fault _ _ is);
+      writer = so_far.writer;
     }
 
 pub returns-then-not-branch : goal.returns-then-not-branch
@@ -84,8 +82,7 @@ returns-then-not-branch g c =
           counts_both old mid new _ _ _ (counts_both old c.loop-end.self mid _ _ _ so_far.counted more.counted)
           (counts_same mid new _ told.count told.over);
       reader = λ other. more.reader (λ is. no_fault _ _ is);
-      writer = λ other. more.writer (λ is. no_fault _ _ is);
-      write_fault = λ is. absurd (no_fault _ _ is);
+      writer = more.writer;
     }
 
 pub returns-in_err-read_more-clause-lines : goal.returns-in_err-read_more-clause-lines
@@ -118,7 +115,7 @@ loop-end-preserved g c = record {
   bound = omega (arith, c.loop-end.invariant.bound, c.in_ok-read_more.ensures.bound);
   kept = keeps-both _ _ _ c.loop-end.invariant.kept c.in_ok-read_more.ensures.kept;
   reader = c.in_ok-read_more.ensures.reader (λ is. no_fault _ _ is);
-  writer = c.in_ok-read_more.ensures.writer (λ is. no_fault _ _ is);
+  writer = c.in_ok-read_more.ensures.writer;
   counted = counts_both c.args.self.now c.loop-end.self c.read_more.new.self _ _ _ c.loop-end.invariant.counted
       c.in_ok-read_more.ensures.counted;
   heard = hears_on _ _ _ _ _ c.args.self.now c.loop-end.self c.read_more.new.self [] c.loop-end.invariant.kept

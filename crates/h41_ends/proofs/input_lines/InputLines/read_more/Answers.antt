@@ -5,7 +5,7 @@ use Rattle.h41_ends.specs.Ends.{given_after, most_bytes}
 use Rattle.h41_ends.specs.HeardLines.{AreNone}
 use Rattle.h41_ends.specs.InputLines.{held_in}
 use Rattle.h41_ends.proofs.InputBuffers.{held_kept, held_more}
-use Rattle.h41_ends.proofs.Answered.{no_answer, no_fault, no_write}
+use Rattle.h41_ends.proofs.Answered.{no_answer, no_fault}
 use Rattle.h41_ends.proofs.HeardReads.{hears_one, hears_still}
 use Rattle.h41_ends.proofs.InputReading.{counts_more, failed_read, nothing_read, reaches_end, reads_failed, reads_some, some_read}
 use Rattle.h41_ends.proofs.InputReading.{stopped_short}
@@ -41,8 +41,7 @@ returns-in-Err g c =
       counted = λ first counted. c.in-Err.ensures.given ∙ counted
           ∙ ap (given_after first) (λ i. sym same.count i + (if sym same.over i then 1 else 0));
       reader = λ other. absurd (other refl);
-      writer = λ other. flushed.clear;
-      write_fault = λ is. absurd (no_write is);
+      writer = flushed.mark;
     }
 
 pub returns-in-Ok : goal.returns-in-Ok
@@ -94,8 +93,7 @@ returns-in-Ok g c =
           counts_more old new count _ _ c.if-self.false (omega (arith, c.in-Ok.ensures.bound.0, same.count)) c.in-Ok.ensures.given
           total over;
       reader = search rules;
-      writer = λ other. flushed.clear;
-      write_fault = λ is. absurd (no_fault _ _ is);
+      writer = flushed.mark;
     }
 
 pub returns-in_err-flush_rest-clause-heard : goal.returns-in_err-flush_rest-clause-heard
@@ -118,6 +116,5 @@ returns-then-self g c =
       kept = flushed.bytes;
       counted = search rules;
       reader = λ other. absurd (other refl);
-      writer = λ other. flushed.clear;
-      write_fault = λ is. absurd (no_write is);
+      writer = flushed.mark;
     }
